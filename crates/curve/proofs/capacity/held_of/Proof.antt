@@ -1,0 +1,50 @@
+-- `curve::capacity::held_of` meets its contract: the share is at most 65,536, and so is its power. Assumes nothing.
+use mathlib.Core.Path.{_≡_}
+use Prim.Native.Nat.{ℕ, _-_, _*_, _/_, _≤_, _<_}
+use native.Mathlib.Nat.{mul-le-mul, mul-le-mul-left}
+use native.Mathlib.Omega.{arith}
+use Rattle.curve.specs.Shares.{one}
+use Rattle.curve.specs.Capacity.{above, held, power}
+use Rattle.curve.proofs.HeldLaws.{above-le-one}
+use borrow.Author.Needs.{needs}
+use Rattle.curve.proofs.capacity.held_of.Statement.{statement}
+use Rattle.curve.proofs.capacity.held_of.Tie as tie
+
+share-le : (m a : ℕ) → 0 < m → (m - a) * one / m ≤ one
+unfolding above
+share-le m a z = above-le-one m a z
+
+scaled : (c x : ℕ) → c ≤ 500000 → x ≤ one → c * x ≤ 500000 * one
+scaled c x h k = mul-le-mul {n₁ = c} {m₁ = x} {n₂ = 500000} {m₂ = one} h k
+
+part-le : (c x : ℕ) → x ≤ one → c * x / one ≤ c
+part-le c x k = omega (arith, mul-le-mul-left c k)
+
+holds : (c m e a x : ℕ) → x ≡ power ((m - a) * one / m) e → c - c * x / one ≡ held c m e a
+unfolding held above
+holds c m e a x h = rw h
+
+sub-t : tie.Need-sub-t
+sub-t c = search needs
+
+mul-t : tie.Need-mul-t
+mul-t c = search needs
+
+div-t : tie.Need-div-t
+div-t c = search needs
+
+power-of-requires : tie.Need-power-of-requires
+power-of-requires c κs = share-le (c .args .m) (c .args .a) (c .pre .1)
+
+mul-result : tie.Need-mul-result
+mul-result c = omega (arith, scaled (c .before .args .c) (c .power-of .result) (c .before .pre .0) (c .power-of .ensures .1))
+
+sub-result : tie.Need-sub-result
+sub-result c = part-le (c .before .args .c) (c .power-of .result) (c .power-of .ensures .1)
+
+returns : tie.Need-returns
+returns c = holds _ _ _ _ _ (c .power-of .ensures .0)
+
+pub held-of-spec : {M : Type 1} → statement M
+held-of-spec =
+    tie.close (tie.spec sub-t mul-t div-t power-of-requires mul-result sub-result returns)

@@ -1,0 +1,45 @@
+-- `curve::capacity::ordinate` meets its contract. Assumes nothing.
+use mathlib.Core.Path.{sym, ap, _∙_}
+use native.Mathlib.Omega.{arith}
+use Rattle.curve.specs.Capacity.{value}
+use Rattle.curve.proofs.CallLaws.{outside-yes, outside-no, ordinate-accepts, ordinate-refuses}
+use borrow.Author.Needs.{needs}
+use Rattle.curve.proofs.capacity.ordinate.Statement.{statement}
+use Rattle.curve.proofs.capacity.ordinate.Tie as tie
+
+outside-requires : tie.Need-outside-requires
+outside-requires c κs = search needs
+
+refuse-requires : tie.Need-refuse-requires
+refuse-requires c κs = search needs
+
+returns : tie.Need-returns
+returns c = c .refuse .ensures ∙ sym (ordinate-refuses _ _ _ _ (λ h _. outside-yes _ _ _ (c .before .before .outside .ensures) (c .before .if1 .taken) h))
+
+refuse-requires-2 : tie.Need-refuse-requires-2
+refuse-requires-2 c κs = search needs
+
+returns-2 : tie.Need-returns-2
+returns-2 c = c .refuse2 .ensures ∙ sym (ordinate-refuses _ _ _ _ (λ _ k. omega (arith, k)))
+
+ordinate-of-requires : tie.Need-ordinate-of-requires
+ordinate-of-requires c κs = omega (arith, outside-no _ _ _ (c .before .before .outside .ensures) (c .before .if1 .left))
+
+accept-requires : tie.Need-accept-requires
+accept-requires c κs = search needs
+
+returns-3 : tie.Need-returns-3
+returns-3 c = c .accept .ensures ∙ ap (λ v. value v) (c .before .ordinate-of .ensures) ∙ sym (ordinate-accepts _ _ _ _ (outside-no _ _ _ (c .before .before .before .before .outside .ensures) (c .before .before .before .if1 .left)) (omega arith))
+
+pub ordinate-spec : {M : Type 1} → statement M
+ordinate-spec =
+    tie.close
+    (tie.spec
+    outside-requires
+    refuse-requires
+    returns
+    refuse-requires-2
+    returns-2
+    ordinate-of-requires
+    accept-requires
+    returns-3)

@@ -1,0 +1,211 @@
+// The capacity curve: document 01, "The capacity curve". Shares are in parts of 65,536, capacities in µm.
+ghost use mathlib.Core.Path.{_≡_};
+ghost use mathlib.Core.Bool.{not};
+ghost use Prim.Native.Nat.{_*_, _/_, _≤_, _<_};
+ghost use Rattle.curve.specs.Capacity.{root, curveIn, whole, part, power, held, ordinate, value, refused, rootCall, powerCall, heldCall, ordinateCall};
+
+// What a call of the curve answers: number and place are 0 where it is accepted.
+pub struct Answer {
+    pub number: u64,
+    pub place: u64,
+    pub value: u64,
+}
+
+const ONE: u64 = 65536;
+
+const LEAST_E: u64 = 16;
+
+const MOST_E: u64 = 48;
+
+const MOST_C: u64 = 500000;
+
+const MOST_M: u64 = 2000000;
+
+// The greatest r with r * r <= t * 65,536.
+pub fn root(t: u64) -> Answer
+    ensures { λ r. ⌜ r ≡ rootCall t ⌝ }
+{
+    if ONE < t {
+        return refuse();
+    }
+    accept(root_of(t))
+}
+
+// The share t raised to e / 16.
+pub fn power(t: u64, e: u64) -> Answer
+    ensures { λ r. ⌜ r ≡ powerCall t e ⌝ }
+{
+    if ONE < t {
+        return refuse();
+    }
+    if e < LEAST_E {
+        return refuse();
+    }
+    if MOST_E < e {
+        return refuse();
+    }
+    accept(power_of(t, e))
+}
+
+// What is held below the ordinate a, by the curve of mean capacity c and greatest point capacity m.
+pub fn held(c: u64, m: u64, e: u64, a: u64) -> Answer
+    ensures { λ r. ⌜ r ≡ heldCall c m e a ⌝ }
+{
+    if outside(c, m, e) {
+        return refuse();
+    }
+    if m < a {
+        return refuse();
+    }
+    accept(held_of(c, m, e, a))
+}
+
+// The greatest ordinate below which at most w is held.
+pub fn ordinate(c: u64, m: u64, e: u64, w: u64) -> Answer
+    ensures { λ r. ⌜ r ≡ ordinateCall c m e w ⌝ }
+{
+    if outside(c, m, e) {
+        return refuse();
+    }
+    if c < w {
+        return refuse();
+    }
+    accept(ordinate_of(c, m, e, w))
+}
+
+fn accept(v: u64) -> Answer
+    ensures { λ r. ⌜ r ≡ value v ⌝ }
+{
+    Answer {
+        number: 0,
+        place: 0,
+        value: v,
+    }
+}
+
+fn refuse() -> Answer
+    ensures { λ r. ⌜ r ≡ refused ⌝ }
+{
+    Answer {
+        number: 10,
+        place: 0,
+        value: 0,
+    }
+}
+
+// Whether c, m or e is outside its limits.
+fn outside(c: u64, m: u64, e: u64) -> bool
+    ensures { λ r. ⌜ r ≡ not (curveIn c m e) ⌝ }
+{
+    if c < 1 {
+        return true;
+    }
+    if MOST_C < c {
+        return true;
+    }
+    if m < 1 {
+        return true;
+    }
+    if MOST_M < m {
+        return true;
+    }
+    if e < LEAST_E {
+        return true;
+    }
+    if MOST_E < e {
+        return true;
+    }
+    false
+}
+
+// Newton's steps from above: the first guess is the mean of t and 65,536, and a guess whose square is too great goes down.
+fn root_of(t: u64) -> u64
+    requires { ⌜ t ≤ 65536 ⌝ }
+    ensures { λ r. ⌜ (r ≡ root t) × (r ≤ 65536) ⌝ }
+{
+    let n = t * ONE;
+    let mut r = (ONE + t) / 2;
+    while n < r * r {
+        r = (r + n / r) / 2;
+    }
+    r
+}
+
+// 65,536, k times multiplied by t and divided by 65,536.
+fn whole_of(t: u64, k: u64) -> u64
+    requires { ⌜ t ≤ 65536 ⌝ }
+    ensures { λ r. ⌜ (r ≡ whole t k) × (r ≤ 65536) ⌝ }
+{
+    let mut x = ONE;
+    for _ in 0..k {
+        x = x * t / ONE;
+    }
+    x
+}
+
+// A root is taken only where a lower bit of e needs it.
+fn power_of(t: u64, e: u64) -> u64
+    requires { ⌜ t ≤ 65536 ⌝ }
+    ensures { λ r. ⌜ (r ≡ power t e) × (r ≤ 65536) ⌝ }
+{
+    let x = whole_of(t, e / 16);
+    if e % 16 == 0 {
+        return x;
+    }
+    let r1 = root_of(t);
+    let x1 = part_of(e, 8, r1, x);
+    if e % 8 == 0 {
+        return x1;
+    }
+    let r2 = root_of(r1);
+    let x2 = part_of(e, 4, r2, x1);
+    if e % 4 == 0 {
+        return x2;
+    }
+    let r3 = root_of(r2);
+    let x3 = part_of(e, 2, r3, x2);
+    if e % 2 == 0 {
+        return x3;
+    }
+    part_of(e, 1, root_of(r3), x3)
+}
+
+// x times r over 65,536, where e mod 16 holds the bit b.
+fn part_of(e: u64, b: u64, r: u64, x: u64) -> u64
+    requires { ⌜ (0 < b) × (r ≤ 65536) × (x ≤ 65536) ⌝ }
+    ensures { λ y. ⌜ (y ≡ part e b r x) × (y ≤ 65536) ⌝ }
+{
+    if e % 16 / b % 2 == 1 { x * r / ONE } else { x }
+}
+
+fn held_of(c: u64, m: u64, e: u64, a: u64) -> u64
+    requires { ⌜ (c ≤ 500000) × (0 < m) × (m ≤ 2000000) × (a ≤ m) ⌝ }
+    ensures { λ r. ⌜ r ≡ held c m e a ⌝ }
+{
+    let t = (m - a) * ONE / m;
+    c - c * power_of(t, e) / ONE
+}
+
+// The interval from lo to hi is narrowed: lo holds at most w, hi holds more.
+fn ordinate_of(c: u64, m: u64, e: u64, w: u64) -> u64
+    requires { ⌜ (c ≤ 500000) × (0 < m) × (m ≤ 2000000) × (16 ≤ e) × (w ≤ c) ⌝ }
+    ensures { λ r. ⌜ r ≡ ordinate c m e w ⌝ }
+{
+    if w == c {
+        return m;
+    }
+    let mut lo = 0;
+    let mut hi = m;
+    let a = loop {
+        let mid = lo + (hi - lo) / 2;
+        if mid == lo {
+            break lo;
+        }
+        if held_of(c, m, e, mid) <= w {
+            lo = mid;
+        } else {
+            hi = mid;
+        }
+    };
+    a
+}

@@ -1,0 +1,3 @@
+// The capacity curve and the store law: document 01, sections "The capacity curve" and "The store law".
+pub mod capacity;
+pub mod store;

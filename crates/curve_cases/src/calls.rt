@@ -1,0 +1,8 @@
+// The public calls of `curve`.
+pub enum Call {
+    Root,
+    Power,
+    Held,
+    Ordinate,
+    Store,
+}

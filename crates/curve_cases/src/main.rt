@@ -1,0 +1,28 @@
+// The calls of `curve`: on document 01's examples, on every share, at both ends of every limit and
+// one beyond, and in long random series. What it must print comes from the second model:
+// `model expect curve_cases`.
+mod calls;
+mod checksum;
+mod every;
+mod examples;
+mod limits;
+mod lines;
+mod random;
+
+use calls::Call;
+
+fn main() {
+    examples::print();
+    every::shares();
+    limits::cases(Call::Root, 4);
+    limits::cases(Call::Power, 16);
+    limits::cases(Call::Held, 192);
+    limits::cases(Call::Ordinate, 192);
+    limits::cases(Call::Store, 256);
+    limits::far();
+    random::series(Call::Root);
+    random::series(Call::Power);
+    random::series(Call::Held);
+    random::series(Call::Ordinate);
+    random::series(Call::Store);
+}

@@ -1,0 +1,217 @@
+//! `curve_cases`: the calls of the curve and the store.
+
+use super::draw::{Checksum, Draw};
+use crate::curve;
+use crate::store::Store;
+use std::io::{self, Write};
+
+/// A call with its arguments.
+#[derive(Clone, Copy)]
+enum Call {
+    Root([u64; 1]),
+    Power([u64; 2]),
+    Held([u64; 4]),
+    Ordinate([u64; 4]),
+    Store([u64; 4]),
+}
+
+use Call::{Held, Ordinate, Power, Root};
+
+impl Call {
+    fn name(&self) -> &'static str {
+        match self {
+            Root(_) => "root",
+            Power(_) => "power",
+            Held(_) => "held",
+            Ordinate(_) => "ordinate",
+            Call::Store(_) => "store",
+        }
+    }
+
+    fn arguments(&self) -> &[u64] {
+        match self {
+            Root(arguments) => arguments,
+            Power(arguments) => arguments,
+            Held(arguments) | Ordinate(arguments) | Call::Store(arguments) => arguments,
+        }
+    }
+
+    /// Every number of the answer.
+    fn answer(&self) -> Vec<u64> {
+        let answer = match *self {
+            Root([t]) => curve::root(t),
+            Power([t, e]) => curve::power(t, e),
+            Held([c, m, e, a]) => curve::held(c, m, e, a),
+            Ordinate([c, m, e, w]) => curve::ordinate(c, m, e, w),
+            Call::Store([a, g, content, inflow]) => {
+                let given = Store { a, g, content }.take(inflow);
+                let Store { a, g, content } = given.store;
+                return vec![given.number, given.place, a, g, content, given.outflow];
+            }
+        };
+        vec![answer.number, answer.place, answer.value]
+    }
+
+    fn print(&self, out: &mut impl Write) -> io::Result<()> {
+        write!(out, "{}", self.name())?;
+        for number in self.arguments().iter().chain(&self.answer()) {
+            write!(out, " {number}")?;
+        }
+        writeln!(out)
+    }
+}
+
+pub fn print(out: &mut impl Write) -> io::Result<()> {
+    for call in examples() {
+        call.print(out)?;
+    }
+    writeln!(out, "every root {}", every(|t| Root([t])))?;
+    for e in [15, 16, 17, 24, 31, 32, 33, 40, 47, 48, 49] {
+        writeln!(out, "every power {e} {}", every(|t| Power([t, e])))?;
+    }
+    for call in limits().into_iter().chain(far()) {
+        call.print(out)?;
+    }
+    for drawn in [drawn_root, drawn_power, drawn_held, drawn_ordinate, drawn_store] {
+        series(drawn, out)?;
+    }
+    Ok(())
+}
+
+fn examples() -> Vec<Call> {
+    vec![
+        Power([32_768, 24]),
+        Power([16_384, 24]),
+        Power([4_096, 20]),
+        Power([1, 16]),
+        Power([1, 17]),
+        Power([65_536, 48]),
+        Held([120_000, 180_000, 24, 135_000]),
+        Held([120_000, 180_000, 24, 0]),
+        Ordinate([120_000, 180_000, 24, 0]),
+        Call::Store([32_768, 32_768, 0, 1_111]),
+    ]
+}
+
+/// The checksum over every t and one beyond.
+fn every(call: impl Fn(u64) -> Call) -> u64 {
+    let mut h = Checksum::default();
+    for t in 0..=65_537 {
+        h.fold(&call(t).answer());
+    }
+    h.0
+}
+
+const SHARES: [u64; 4] = [0, 1, 65_536, 65_537];
+const EXPONENTS: [u64; 4] = [15, 16, 48, 49];
+const MEAN_CAPACITIES: [u64; 4] = [0, 1, 500_000, 500_001];
+const POINT_CAPACITIES: [u64; 4] = [0, 1, 2_000_000, 2_000_001];
+const CONTENTS: [u64; 4] = [0, 1, 1 << 56, (1 << 56) + 1];
+const INFLOWS: [u64; 4] = [0, 1, 1 << 62, (1 << 62) + 1];
+
+/// Both ends of every limit and one beyond, each with each; the first argument changes fastest.
+fn limits() -> Vec<Call> {
+    let mut calls: Vec<Call> = SHARES.map(|t| Root([t])).into();
+    for e in EXPONENTS {
+        calls.extend(SHARES.map(|t| Power([t, e])));
+    }
+    for k in 0..3 {
+        for e in EXPONENTS {
+            for m in POINT_CAPACITIES {
+                calls.extend(MEAN_CAPACITIES.map(|c| Held([c, m, e, [0, m, m + 1][k]])));
+            }
+        }
+    }
+    for k in 0..3 {
+        for e in EXPONENTS {
+            for m in POINT_CAPACITIES {
+                calls.extend(MEAN_CAPACITIES.map(|c| Ordinate([c, m, e, [0, c, c + 1][k]])));
+            }
+        }
+    }
+    for inflow in INFLOWS {
+        for content in CONTENTS {
+            for g in SHARES {
+                calls.extend(SHARES.map(|a| Call::Store([a, g, content, inflow])));
+            }
+        }
+    }
+    calls
+}
+
+/// Each argument in turn at the greatest u64.
+fn far() -> Vec<Call> {
+    let mut calls = vec![Root([u64::MAX]), Power([u64::MAX, 16]), Power([1, u64::MAX])];
+    let valid = [1, 1, 16, 1];
+    calls.extend((0..4).map(|i| Held(with(valid, i))));
+    calls.extend((0..4).map(|i| Ordinate(with(valid, i))));
+    calls.extend((0..4).map(|i| Call::Store(with([1; 4], i))));
+    calls
+}
+
+fn with(mut arguments: [u64; 4], i: usize) -> [u64; 4] {
+    arguments[i] = u64::MAX;
+    arguments
+}
+
+/// 100,000 random calls: every 2,500th in full, and at the end the checksum of all.
+fn series(drawn: fn(&mut Draw) -> Call, out: &mut impl Write) -> io::Result<()> {
+    let mut draw = Draw(1);
+    let mut h = Checksum::default();
+    let mut name = "";
+    for i in 0..100_000 {
+        let call = drawn(&mut draw);
+        if i % 2_500 == 0 {
+            call.print(out)?;
+        }
+        h.fold(&call.answer());
+        name = call.name();
+    }
+    writeln!(out, "series {name} {}", h.0)
+}
+
+fn drawn_root(draw: &mut Draw) -> Call {
+    Root([draw.next() % 66_000])
+}
+
+fn drawn_power(draw: &mut Draw) -> Call {
+    let t = draw.next() % 66_000;
+    let e = 15 + draw.next() % 35;
+    Power([t, e])
+}
+
+fn drawn_held(draw: &mut Draw) -> Call {
+    let [c, m, e] = drawn_curve(draw);
+    Held([c, m, e, draw.next() % (m + 2)])
+}
+
+fn drawn_ordinate(draw: &mut Draw) -> Call {
+    let [c, m, e] = drawn_curve(draw);
+    Ordinate([c, m, e, draw.next() % (c + 2)])
+}
+
+fn drawn_curve(draw: &mut Draw) -> [u64; 3] {
+    let c = sized(draw, 500_002);
+    let m = sized(draw, 2_000_002);
+    let e = 15 + draw.next() % 35;
+    [c, m, e]
+}
+
+/// A capacity of one of four sizes, the largest below `end`.
+fn sized(draw: &mut Draw, end: u64) -> u64 {
+    let size = draw.next() % 4;
+    draw.next() % [20, 1_000, 66_000, end][size as usize]
+}
+
+fn drawn_store(draw: &mut Draw) -> Call {
+    let a = draw.next() % 66_000;
+    let g = draw.next() % 66_000;
+    let content = wide(draw) >> (draw.next() % 60);
+    let inflow = (wide(draw) * 2) >> (draw.next() % 60);
+    Call::Store([a, g, content, inflow])
+}
+
+/// Two draws as one number below 2^62.
+fn wide(draw: &mut Draw) -> u64 {
+    (draw.next() << 31) + draw.next()
+}

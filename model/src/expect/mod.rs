@@ -1,0 +1,19 @@
+//! What each test program must print, one file a program.
+
+mod curve_cases;
+mod draw;
+
+use std::io::{self, Write};
+
+const NAMES: [&str; 1] = ["curve_cases"];
+
+pub fn names(out: &mut impl Write) -> io::Result<()> {
+    NAMES.iter().try_for_each(|name| writeln!(out, "{name}"))
+}
+
+pub fn print(name: &str, out: &mut impl Write) -> io::Result<()> {
+    match name {
+        "curve_cases" => curve_cases::print(out),
+        _ => Err(io::Error::other(format!("no test program is called {name}"))),
+    }
+}

@@ -1,0 +1,198 @@
+//! One sub-basin, one step.
+
+use crate::curve::{held_of, ordinate_of, WHOLE};
+use crate::record::{Record, WAITING};
+use crate::store::Store;
+
+/// Greatest depths of a sub-basin call, µm.
+pub const GREATEST_RAIN: u64 = 1_000_000;
+pub const GREATEST_PAN: u64 = 100_000;
+
+/// What a step of one sub-basin tells beside its record: depths in µm, Q in m³.
+#[derive(Clone, Copy, Debug, Default, PartialEq, Eq)]
+pub struct Flows {
+    pub eu: u64,
+    pub el: u64,
+    pub ed: u64,
+    pub rb: u64,
+    pub r: u64,
+    pub rs: u64,
+    pub ri: u64,
+    pub rg: u64,
+    pub q: u64,
+}
+
+/// A sub-basin call's answer. Refused: 10, place 0, the record as it was, flows 0.
+#[derive(Clone, Copy, Debug, PartialEq, Eq)]
+pub struct Stepped {
+    pub number: u64,
+    pub place: u64,
+    pub record: Record,
+    pub flows: Flows,
+}
+
+/// The sub-basin call, with rain and pan depths in µm.
+pub fn step(record: Record, rain: u64, pan: u64) -> Stepped {
+    if rain > GREATEST_RAIN || pan > GREATEST_PAN || !record.inside() {
+        return Stepped { number: 10, place: 0, record, flows: Flows::default() };
+    }
+    let (record, flows) = step_of(record, rain, pan);
+    Stepped { number: 0, place: 0, record, flows }
+}
+
+/// The step of a record inside its limits.
+pub fn step_of(mut s: Record, rain: u64, pan: u64) -> (Record, Flows) {
+    let mut f = Flows::default();
+    let ep = s.k * pan / WHOLE;
+    let pe = evaporate(&mut s, &mut f, rain, ep);
+    if pe > 0 {
+        produce(&mut s, &mut f, pe);
+    }
+    separate(&mut s, &mut f, pe);
+    f.q = route(&mut s, &f);
+    (s, f)
+}
+
+/// Evapotranspiration by layer; gives PE.
+fn evaporate(s: &mut Record, f: &mut Flows, p: u64, ep: u64) -> u64 {
+    if p >= ep {
+        f.eu = ep;
+        return p - ep;
+    }
+    let demand = ep - p;
+    let u = s.wu.min(demand);
+    f.eu = p + u;
+    let d = demand - u;
+    if s.wl * WHOLE >= s.c * s.lm {
+        f.el = s.wl.min(d * s.wl / s.lm);
+    } else {
+        let q = s.c * d / WHOLE;
+        f.el = s.wl.min(q);
+        f.ed = s.wd.min(q - f.el);
+    }
+    s.wu -= u;
+    s.wl -= f.el;
+    s.wd -= f.ed;
+    0
+}
+
+/// Impervious and pervious runoff, RB and R, and the gain of the tension layers.
+fn produce(s: &mut Record, f: &mut Flows, pe: u64) {
+    f.rb = s.im * pe / WHOLE;
+    let x = pe - f.rb;
+    let w = s.wu + s.wl + s.wd;
+    let wm = s.um + s.lm + s.dm;
+    let mm = wm * s.bn * WHOLE / (16 * (WHOLE - s.im));
+    let a = (ordinate_of(wm, mm, s.bn, w) + pe).min(mm);
+    let gain = x.min(held_of(wm, mm, s.bn, a) - w);
+    f.r = x - gain;
+    let to_upper = gain.min(s.um - s.wu);
+    let to_lower = (gain - to_upper).min(s.lm - s.wl);
+    s.wu += to_upper;
+    s.wl += to_lower;
+    s.wd += gain - to_upper - to_lower;
+}
+
+/// The free water: RS, RI and RG.
+fn separate(s: &mut Record, f: &mut Flows, pe: u64) {
+    let mut keep = s.g;
+    if f.r > 0 {
+        let ms = s.sm * s.xn / 16;
+        let before = s.sm.min(s.g * pe / f.r);
+        let a = (ordinate_of(s.sm, ms, s.xn, before) + pe).min(ms);
+        let after = held_of(s.sm, ms, s.xn, a);
+        keep = (s.g + f.r).min(after * f.r / pe);
+        f.rs = s.g + f.r - keep;
+    }
+    f.ri = s.ki * keep / WHOLE;
+    f.rg = s.kg * keep / WHOLE;
+    s.g = keep - f.ri - f.rg;
+}
+
+/// Interflow, ground water, the lag line and the CS store; gives Q in m³.
+fn route(s: &mut Record, f: &Flows) -> u64 {
+    let ti = recede(&mut s.vi, s.ci, f.ri);
+    let tg = recede(&mut s.vg, s.cg, f.rg);
+    let t = (f.rs + f.rb + ti + tg) * s.area;
+    let leaving = delay(&mut s.waiting, s.l as usize, t);
+    recede(&mut s.channel, s.cs, leaving)
+}
+
+/// A store whose two shares are what the recession leaves.
+fn recede(content: &mut u64, recession: u64, inflow: u64) -> u64 {
+    let share = WHOLE - recession;
+    let (store, outflow) = Store { a: share, g: share, content: *content }.pass(inflow);
+    *content = store.content;
+    outflow
+}
+
+/// The amount that entered `lag` steps ago.
+fn delay(waiting: &mut [u64; WAITING], lag: usize, amount: u64) -> u64 {
+    if lag == 0 {
+        return amount;
+    }
+    let leaving = waiting[lag - 1];
+    waiting.copy_within(0..lag - 1, 1);
+    waiting[0] = amount;
+    leaving
+}
+
+#[cfg(test)]
+mod tests {
+    use super::*;
+    use crate::record::*;
+
+    #[test]
+    fn case_a_first_step() {
+        let given = step(Record::of_words(&CASE_A), 135_000, 0);
+        let after = given.record;
+        assert_eq!((given.number, given.place), (0, 0));
+        assert_eq!(after.wu + after.wl + after.wd, 105_000);
+        assert_eq!((after.wu, after.wl, after.wd), (20_000, 60_000, 25_000));
+        let expected =
+            Flows { r: 30_000, rs: 25_556, ri: 1_111, rg: 1_111, q: 26_666, ..Flows::default() };
+        assert_eq!(given.flows, expected);
+        assert_eq!((after.g, after.vi, after.vg), (4_444 - 2_222, 556, 556));
+    }
+
+    #[test]
+    fn an_amount_leaves_after_its_lag() {
+        for lag in 0..=WAITING {
+            let mut waiting = [0; WAITING];
+            for t in 1..=40u64 {
+                let expected = t.saturating_sub(lag as u64);
+                assert_eq!(delay(&mut waiting, lag, t), expected, "lag {lag}");
+                assert!(waiting[lag..].iter().all(|&amount| amount == 0));
+            }
+        }
+    }
+
+    #[test]
+    fn refused_calls() {
+        let a = Record::of_words(&CASE_A);
+        let mut late = Record { l: 2, ..a };
+        late.waiting[1] = GREATEST_WAITING_AMOUNT;
+        assert_eq!(step(late, 0, 0).number, 0);
+        let mut unused = late;
+        unused.waiting[2] = 1;
+        let mut above = late;
+        above.waiting[1] += 1;
+        let refused = [
+            Record { area: 0, ..a },
+            Record { wu: 20_001, ..a },
+            Record { kg: 49_153, ..a },
+            Record { vi: GREATEST_WAITING_DEPTH + 1, ..a },
+            Record { channel: GREATEST_CHANNEL + 1, ..a },
+            unused,
+            above,
+        ];
+        for record in refused {
+            let expected = Stepped { number: 10, place: 0, record, flows: Flows::default() };
+            assert_eq!(step(record, 0, 0), expected);
+        }
+        assert_eq!(step(a, 1_000_001, 0).number, 10);
+        assert_eq!(step(a, 0, 100_001).number, 10);
+        let most = Record { reach: u64::MAX, vi: GREATEST_WAITING_DEPTH, ..a };
+        assert_eq!(step(most, 1_000_000, 100_000).number, 0);
+    }
+}
