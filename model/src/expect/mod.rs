@@ -2,10 +2,11 @@
 
 mod curve_cases;
 mod draw;
+mod subbasin_series;
 
 use std::io::{self, Write};
 
-const NAMES: [&str; 1] = ["curve_cases"];
+const NAMES: [&str; 2] = ["curve_cases", "subbasin_series"];
 
 pub fn names(out: &mut impl Write) -> io::Result<()> {
     NAMES.iter().try_for_each(|name| writeln!(out, "{name}"))
@@ -14,6 +15,7 @@ pub fn names(out: &mut impl Write) -> io::Result<()> {
 pub fn print(name: &str, out: &mut impl Write) -> io::Result<()> {
     match name {
         "curve_cases" => curve_cases::print(out),
+        "subbasin_series" => subbasin_series::print(out),
         _ => Err(io::Error::other(format!("no test program is called {name}"))),
     }
 }

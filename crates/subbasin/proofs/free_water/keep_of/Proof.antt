@@ -1,0 +1,69 @@
+-- `subbasin::free_water::keep_of` meets its contract: the test is the definition's own. Assumes nothing.
+use mathlib.Core.Path.{_≡_, ap, ap₂, _∙_}
+use Prim.Native.Nat.{ℕ, _+_, _*_, _/_, _≤_, min}
+use native.Mathlib.Nat.{mul-le-mul, le-trans}
+use native.Mathlib.Omega.{arith}
+use borrow.Author.Tests.{lt-ltb, le-ltb}
+use Rattle.subbasin.specs.declared.record.Parameters.{Parameters}
+use Rattle.subbasin.specs.FreeWater.{level, raised, keep}
+use Rattle.subbasin.proofs.FreeWaterLaws.{raised-most}
+use borrow.Author.Needs.{needs}
+use Rattle.subbasin.proofs.free_water.keep_of.Statement.{statement}
+use Rattle.subbasin.proofs.free_water.keep_of.Tie as tie
+
+module _ (p : Parameters) (g pe r : ℕ) where
+  none-new : r ≡ 0 → g ≡ keep p g pe r
+  unfolding keep
+  none-new h = rw (le-ltb 0 r (omega arith))
+
+  some-new : (r ≡ 0 → ⊥) → {s s2 kept : ℕ} → s ≡ min (p .sm) (g * pe / r) → s2 ≡ raised p s pe → kept ≡ min (g + r) (s2 * r / pe) → kept ≡ keep p g pe r
+  unfolding keep level
+  some-new n e f h = rw (lt-ltb 0 r (omega arith), ← e, ← f) h
+
+raised-le : (p : Parameters) (s pe : ℕ) {s2 : ℕ} → p .sm ≤ 100000 → s2 ≡ raised p s pe → s2 ≤ 100000
+raised-le p s pe h e = omega (arith, raised-most p s pe)
+
+returns : tie.Need-returns
+returns c = none-new _ _ _ _ (c .if1 .taken)
+
+mul-least : tie.Need-mul-least
+mul-least c = omega (arith, mul-le-mul (le-trans (c .before .pre .1) (c .before .pre .0 .sm-most)) (c .before .pre .3))
+
+div-least : tie.Need-div-least
+div-least c = search needs
+
+least-requires : tie.Need-least-requires
+least-requires c κs = search needs
+
+raise-requires : tie.Need-raise-requires
+raise-requires c κs = search needs
+
+add-least : tie.Need-add-least
+add-least c = search needs
+
+mul-least-2 : tie.Need-mul-least-2
+mul-least-2 c = omega (arith, mul-le-mul (raised-le _ _ _ (c .before .before .before .pre .0 .sm-most) (c .raise .ensures)) (le-trans (c .before .before .before .pre .2) (c .before .before .before .pre .3)))
+
+div-least-2 : tie.Need-div-least-2
+div-least-2 c = search needs
+
+least-requires-2 : tie.Need-least-requires-2
+least-requires-2 c κs = search needs
+
+returns-2 : tie.Need-returns-2
+returns-2 c = some-new _ _ _ _ (c .before .before .before .if1 .left) (c .before .before .least .ensures) (c .before .raise .ensures) (c .least2 .ensures)
+
+pub keep-of-spec : {M : Type 1} → statement M
+keep-of-spec =
+    tie.close
+    (tie.spec
+    returns
+    mul-least
+    div-least
+    least-requires
+    raise-requires
+    add-least
+    mul-least-2
+    div-least-2
+    least-requires-2
+    returns-2)

@@ -1,0 +1,37 @@
+-- Document 01, "One sub-basin, one step": free water and its three parts.
+use Prim.Native.Nat.{ℕ, _+_, _-_, _*_, _/_, min}
+use mathlib.Core.Bool.{Bool, cond}
+use lib.Dec.{ltb}
+use Rattle.curve.specs.Shares.{one}
+use Rattle.curve.specs.Capacity.{held, ordinate}
+use Rattle.subbasin.specs.declared.record.Parameters.{Parameters}
+use Rattle.subbasin.specs.declared.free_water.Parted.{Parted}
+
+-- "m = MS = SM × XN / 16"
+unfoldable pub ms : Parameters → ℕ
+ms p = p .sm * p .xn / 16
+
+-- "S = min(SM, G × PE / R)"
+unfoldable pub level : Parameters → ℕ → ℕ → ℕ → ℕ
+level p g pe r = min (p .sm) (g * pe / r)
+
+-- "S2 = Held(min(Ordinate(S) + PE, MS))"
+unfoldable pub raised : Parameters → ℕ → ℕ → ℕ
+raised p s pe = held (p .sm) (ms p) (p .xn) (min (ordinate (p .sm) (ms p) (p .xn) s + pe) (ms p))
+
+-- "R > 0: keep = min(G + R, S2 × R / PE). If R = 0, keep = G"
+unfoldable pub keep : Parameters → ℕ → ℕ → ℕ → ℕ
+keep p g pe r = cond (ltb 0 r) (min (g + r) (raised p (level p g pe r) pe * r / pe)) g
+
+-- "RS = G + R − keep", 0 where R = 0; "RI = KI × keep / 65,536, RG likewise with KG; G becomes keep − RI − RG"
+abbrev pub drained : Parameters → ℕ → ℕ → Parted
+drained p before kept =
+    record {
+      rs = before - kept;
+      ri = p .ki * kept / one;
+      rg = p .kg * kept / one;
+      g = kept - p .ki * kept / one - p .kg * kept / one;
+    }
+
+unfoldable pub parted : Parameters → ℕ → ℕ → ℕ → Parted
+parted p g pe r = drained p (g + r) (keep p g pe r)

@@ -1,0 +1,8 @@
+-- Document 01 as definitions: one sub-basin's record and its limits, and one step of it, stage by stage.
+pub mod Record
+pub mod Soil
+pub mod FreeWater
+pub mod Lag
+pub mod Limits
+pub mod Step
+pub mod Content

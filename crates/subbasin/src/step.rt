@@ -1,0 +1,150 @@
+// One sub-basin, one step: document 01, "One sub-basin, one step" and "The store law".
+ghost use mathlib.Core.Path.{_≡_};
+ghost use mathlib.Core.Bool.{true};
+ghost use Prim.Native.Nat.{_+_, _≤_};
+ghost use Rattle.subbasin.specs.Record.{recordIn};
+ghost use Rattle.subbasin.specs.Step.{slowStore, with-parted, returned, stepped, stepCall};
+use crate::free_water;
+use crate::free_water::Parted;
+use crate::record;
+use crate::record::Contents;
+use crate::record::SubBasin;
+use crate::soil;
+use crate::soil::Evaporated;
+use crate::soil::Layers;
+use crate::soil::Runoff;
+use crate::waiting;
+use curve::store::Store;
+
+// What a step of a sub-basin gives: number and place are 0 where it is accepted. Depths in µm, q in m³.
+pub struct Stepped {
+    pub number: u64,
+    pub place: u64,
+    pub after: SubBasin,
+    pub eu: u64,
+    pub el: u64,
+    pub ed: u64,
+    pub rb: u64,
+    pub r: u64,
+    pub rs: u64,
+    pub ri: u64,
+    pub rg: u64,
+    pub q: u64,
+}
+
+const ONE: u64 = 65536;
+
+const MOST_RAIN: u64 = 1000000;
+
+const MOST_PAN: u64 = 100000;
+
+// One step under rain and pan depths in µm.
+pub fn step(s: SubBasin, rain: u64, pan: u64) -> Stepped
+    ensures { λ r. ⌜ r ≡ stepCall s rain pan ⌝ }
+{
+    let p = s.fixed;
+    if MOST_RAIN < rain {
+        return refuse(s);
+    }
+    if MOST_PAN < pan {
+        return refuse(s);
+    }
+    if record::allowed(s, p.reach) {
+        return run(s, rain, pan);
+    }
+    refuse(s)
+}
+
+fn refuse(s: SubBasin) -> Stepped
+    ensures { λ r. ⌜ r ≡ returned s ⌝ }
+{
+    Stepped {
+        number: 10,
+        place: 0,
+        after: s,
+        eu: 0,
+        el: 0,
+        ed: 0,
+        rb: 0,
+        r: 0,
+        rs: 0,
+        ri: 0,
+        rg: 0,
+        q: 0,
+    }
+}
+
+// The stages in order: evapotranspiration, runoff, free water, then the way to the outlet.
+fn run(s: SubBasin, rain: u64, pan: u64) -> Stepped
+    requires { ⌜ (recordIn (s .fixed .reach) s ≡ true) × (rain ≤ 1000000) × (pan ≤ 100000) ⌝ }
+    ensures { λ r. ⌜ r ≡ stepped s rain pan ⌝ }
+{
+    let p = s.fixed;
+    let w = s.contents;
+    let layers = Layers {
+        wu: w.wu,
+        wl: w.wl,
+        wd: w.wd,
+    };
+    let ev = soil::evaporate(p, layers, rain, p.k * pan / ONE);
+    let left = ev.layers;
+    let ro = soil::run_off(p, left, ev.pe);
+    let pw = free_water::drain(p, w.g, ev.pe, ro.r);
+    route(s, ev, ro, pw)
+}
+
+// The slow stores, the lag line and the channel.
+fn route(s: SubBasin, ev: Evaporated, ro: Runoff, pw: Parted) -> Stepped
+    requires { ⌜ (recordIn (s .fixed .reach) s ≡ true) × (pw .rs + ro .rb ≤ 1100000) × (pw .ri + pw .rg ≤ 100000) ⌝ }
+    ensures { λ r. ⌜ r ≡ with-parted s ev ro pw ⌝ }
+{
+    let p = s.fixed;
+    let w = s.contents;
+    let line = s.line;
+    let interflow = slow(p.ci, w.vi).take(pw.ri);
+    let ground = slow(p.cg, w.vg).take(pw.rg);
+    let t = (pw.rs + ro.rb + interflow.outflow + ground.outflow) * p.area;
+    let channel = slow(p.cs, s.channel).take(waiting::leave(line, t));
+    let layers = ro.layers;
+    let vi = interflow.store;
+    let vg = ground.store;
+    let ch = channel.store;
+    Stepped {
+        number: 0,
+        place: 0,
+        after: SubBasin {
+            fixed: p,
+            contents: Contents {
+                wu: layers.wu,
+                wl: layers.wl,
+                wd: layers.wd,
+                g: pw.g,
+                vi: vi.content,
+                vg: vg.content,
+            },
+            line: waiting::enter(line, t),
+            channel: ch.content,
+        },
+        eu: ev.eu,
+        el: ev.el,
+        ed: ev.ed,
+        rb: ro.rb,
+        r: ro.r,
+        rs: pw.rs,
+        ri: pw.ri,
+        rg: pw.rg,
+        q: channel.outflow,
+    }
+}
+
+// A store that keeps the same share, its recession, of inflow and content.
+fn slow(recession: u64, content: u64) -> Store
+    requires { ⌜ recession ≤ 65536 ⌝ }
+    ensures { λ r. ⌜ r ≡ slowStore recession content ⌝ }
+{
+    Store {
+        a: ONE - recession,
+        g: ONE - recession,
+        content,
+    }
+}
