@@ -1,55 +1,25 @@
 -- Case A of document 01, its first step over the definitions: each root is given and checked, the rest is computed.
 -- Assumes nothing.
-use mathlib.Core.Path.{_≡_, refl}
+use mathlib.Core.Path.{_≡_, refl, ap}
 use Prim.Native.Nat.{ℕ, _<_}
 use native.Mathlib.Omega.{arith}
 use lib.Dec.{lit<, lit≤}
 use lib.ListN.{replicate}
 use Rattle.curve.specs.Capacity.{whole, part, power, above, held, ordinate}
 use Rattle.curve.specs.Store.{outflow, content}
+use Rattle.curve.specs.Cases.{Agree}
 use Rattle.curve.proofs.RootLaws.{root-unique}
 use Rattle.curve.proofs.HeldLaws.{held-zero, held-top, ordinate-is}
-use Rattle.subbasin.specs.declared.record.Parameters.{Parameters}
-use Rattle.subbasin.specs.declared.record.SubBasin.{SubBasin}
+use Rattle.subbasin.specs.declared.step.Stepped.{Stepped}
 use Rattle.subbasin.specs.Record.{wordsIn, words}
 use Rattle.subbasin.specs.Soil.{ep, evaporated, mm, rb, gain, filled, runoff}
 use Rattle.subbasin.specs.FreeWater.{ms, level, raised, keep, parted}
 use Rattle.subbasin.specs.Lag.{leaving, waitingAfter, entered}
 use Rattle.subbasin.specs.Step.{let-go, stepped}
 use Rattle.subbasin.specs.Content.{sum, water}
+use Rattle.subbasin.specs.Cases.{words-a, case-a, stepCases}
 use Rattle.subbasin.proofs.RecordLaws.{words-limits}
 use Rattle.subbasin.proofs.Laws.{Sound, sound-file}
-
--- the words of the file that no step changes
-abbrev pub words-a : Parameters
-words-a =
-    record {
-      area = 1;
-      k = 65536;
-      um = 20000;
-      lm = 60000;
-      dm = 40000;
-      c = 8192;
-      bn = 24;
-      im = 0;
-      sm = 20000;
-      xn = 24;
-      ki = 16384;
-      kg = 16384;
-      ci = 32768;
-      cg = 32768;
-      cs = 0;
-      reach = 0;
-    }
-
-abbrev pub case-a : SubBasin
-case-a =
-    record {
-      fixed = words-a;
-      contents = record { wu = 0; wl = 0; wd = 0; g = 0; vi = 0; vg = 0 };
-      line = record { lag = 0; waiting = replicate 15 0 };
-      channel = 0;
-    }
 
 -- where the curve holds something at 1, the ordinate of nothing is 0
 ordinate-zero : (c m e : ℕ) → 0 < m → 0 < held c m e 1 → ordinate c m e 0 ≡ 0
@@ -111,6 +81,27 @@ pub step-a : stepped case-a 135000 0
     }
 unfolding stepped evaporated ep outflow content leaving waitingAfter entered
 step-a = rw (runoff-a, parted-a)
+
+pub step-cases : Agree stepCases
+step-cases = (
+  gain-a,
+  (
+    ap (λ (s : Stepped). s .r) step-a,
+    (
+      keep-a,
+      (
+        ap (λ (s : Stepped). s .rs) step-a,
+        (
+          ap (λ (s : Stepped). s .ri) step-a,
+          (
+            interflow-a,
+            (ap (λ (s : Stepped). s .q) step-a, tt),
+          ),
+        ),
+      ),
+    ),
+  ),
+)
 
 pub water-a : water (stepped case-a 135000 0 .after) ≡ 108334
 unfolding water sum

@@ -10,7 +10,7 @@ use Rattle.subbasin.specs.declared.record.Parameters.{Parameters}
 use Rattle.subbasin.specs.declared.record.Contents.{Contents}
 use Rattle.subbasin.specs.declared.record.SubBasin.{SubBasin}
 use Rattle.subbasin.specs.declared.step.Stepped.{Stepped}
-use Rattle.subbasin.specs.Record.{words}
+use Rattle.subbasin.specs.Record.{words, mostSlow}
 use Rattle.subbasin.specs.declared.soil.Runoff.{Runoff}
 use Rattle.subbasin.specs.declared.free_water.Parted.{Parted}
 use Rattle.subbasin.specs.Lag.{leaving, entered}
@@ -96,7 +96,7 @@ total-fits m s ro pw = inflow-fits m s (pw .rs + ro .rb) (pw .ri) (pw .rg)
 
 module _ (m : ℕ) (s : SubBasin) (rain pan : ℕ) (h : RecordIn m s) (n : length (s .line .waiting) ≡ 15) (hr : rain ≤ 1000000) (hp : pan ≤ 100000) where
   step-depths : Depths s rain (stepped s rain pan)
-  step-depths = depths m (2 ^ 33) s rain pan (h .in-words) hp
+  step-depths = depths m mostSlow s rain pan (h .in-words) hp
 
   pub step-balances : water s + s .fixed .area * rain
       ≡ water (stepped s rain pan .after) + s .fixed .area * (stepped s rain pan .eu + stepped s rain pan .el + stepped s rain pan .ed) + stepped s rain pan .q
@@ -150,7 +150,7 @@ module _ (m : ℕ) (s : SubBasin) (rain pan : ℕ) (h : RecordIn m s) (n : lengt
 
 -- What is true of every record that steps lead to from a file's, REACH apart: stronger than 9, so no step meets it.
 pub record Sound (s : SubBasin) : Type 0 where
-  pub in-words : Within (words (s .fixed .reach) (2 ^ 33) (s .fixed) (s .contents) (s .line .lag))
+  pub in-words : Within (words (s .fixed .reach) mostSlow (s .fixed) (s .contents) (s .line .lag))
   pub interflow : rest (s .fixed .ci) * s .contents .vi ≤ one * 1000000
   pub ground : rest (s .fixed .cg) * s .contents .vg ≤ one * 1000000
   pub places : length (s .line .waiting) ≡ 15
@@ -180,7 +180,7 @@ pub sound-file : (m : ℕ) (s : SubBasin) → Within (words m 1000000 (s .fixed)
     → Sound s
 sound-file m s h e z =
     record {
-      in-words = words-with m (s .fixed .reach) 1000000 (2 ^ 33) (s .fixed) (s .contents) (s .contents) (s .line .lag) h (omega arith) (omega arith);
+      in-words = words-with m (s .fixed .reach) 1000000 mostSlow (s .fixed) (s .contents) (s .contents) (s .line .lag) h (omega arith) (omega arith);
       interflow = rest-le (s .fixed .ci) (s .contents .vi) 1000000 (omega arith);
       ground = rest-le (s .fixed .cg) (s .contents .vg) 1000000 (omega arith);
       places = rw e;
@@ -193,7 +193,7 @@ pub sound-in : (m : ℕ) (s : SubBasin) → Sound s → s .fixed .reach ≤ m �
 sound-in m s h l =
     let ws = h .in-words in
     record {
-      in-words = words-with (s .fixed .reach) m (2 ^ 33) (2 ^ 33) (s .fixed) (s .contents) (s .contents) (s .line .lag) ws l (omega arith);
+      in-words = words-with (s .fixed .reach) m mostSlow mostSlow (s .fixed) (s .contents) (s .contents) (s .line .lag) ws l (omega arith);
       in-line = up-to-more (2 ^ 34) (2 ^ 50) (s .line .waiting) (omega arith) (h .in-line);
       unused = h .unused;
       in-channel = omega (arith, h .in-channel, mul-le-mul-right {m = 1} {n = rest (s .fixed .cs)} (s .channel) (omega arith));
@@ -201,22 +201,22 @@ sound-in m s h l =
 
 -- a slow store that never gets more than 100,000
 record Slow (share v i : ℕ) : Type 0 where
-  ceiling : holds share v i ≤ 2 ^ 33
+  ceiling : holds share v i ≤ mostSlow
   held-down : rest share * holds share v i ≤ one * 1000000
   lets-go : let-go share v i ≤ 1100000
 
-slow : (share v i : ℕ) → share ≤ 65535 → i ≤ 100000 → v ≤ 2 ^ 33 → rest share * v ≤ one * 1000000 → Slow share v i
+slow : (share v i : ℕ) → share ≤ 65535 → i ≤ 100000 → v ≤ mostSlow → rest share * v ≤ one * 1000000 → Slow share v i
 slow share v i hs hi hv hb =
     let b = store-bounded {a = rest share} {g = rest share} (omega arith) (omega arith) v i 100000 (one * 1000000) hi hb (omega arith) in
     record {
-      ceiling = store-ceiling {a = rest share} {g = rest share} (omega arith) (omega arith) v i 100000 (2 ^ 33) (omega arith) (omega arith) hi hv (omega arith);
+      ceiling = store-ceiling {a = rest share} {g = rest share} (omega arith) (omega arith) v i 100000 mostSlow (omega arith) (omega arith) hi hv (omega arith);
       held-down = b .0;
       lets-go = omega arith;
     }
 
 module _ (s : SubBasin) (rain pan : ℕ) (h : Sound s) (hr : rain ≤ 1000000) (hp : pan ≤ 100000) where
   sound-depths : Depths s rain (stepped s rain pan)
-  sound-depths = depths (s .fixed .reach) (2 ^ 33) s rain pan (h .in-words) hp
+  sound-depths = depths (s .fixed .reach) mostSlow s rain pan (h .in-words) hp
 
   interflow-slow : Slow (s .fixed .ci) (s .contents .vi) (stepped s rain pan .ri)
   interflow-slow =
@@ -264,7 +264,7 @@ module _ (s : SubBasin) (rain pan : ℕ) (h : Sound s) (hr : rain ≤ 1000000) (
       record {
         in-words =
             rw (r .fixed-kept, k .lag-same)
-            (words-with (s .fixed .reach) (s .fixed .reach) (2 ^ 33) (2 ^ 33) (s .fixed) (s .contents) (st .after .contents) (s .line .lag) (h .in-words) (omega arith) (omega arith));
+            (words-with (s .fixed .reach) (s .fixed .reach) mostSlow mostSlow (s .fixed) (s .contents) (st .after .contents) (s .line .lag) (h .in-words) (omega arith) (omega arith));
         interflow = rw (r .fixed-kept, r .vi-after) (i .held-down);
         ground = rw (r .fixed-kept, r .vg-after) (g .held-down);
         places = k .places;

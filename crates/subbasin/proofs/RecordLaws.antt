@@ -14,7 +14,7 @@ use Rattle.curve.specs.Shares.{within}
 use Rattle.curve.proofs.TestLaws.{refuted, both, within-in, within-limits}
 use Rattle.subbasin.specs.declared.record.SubBasin.{SubBasin}
 use Rattle.subbasin.specs.declared.lag.LagLine.{LagLine}
-use Rattle.subbasin.specs.Record.{Word, word, wordsIn, zipped, firstOut, words, allUpTo, lineIn, recordIn}
+use Rattle.subbasin.specs.Record.{Word, word, wordsIn, zipped, firstOut, words, allUpTo, lineIn, mostSlow, recordIn}
 
 -- every word inside its range, as facts
 abbrev pub Within : List Word → Type 0
@@ -53,7 +53,7 @@ all-in b (x ∷ xs) h = both (le-leb x b (h .0)) (all-in b xs (h .1))
 
 -- a record that 9 allows, with REACH up to m
 pub record RecordIn (m : ℕ) (s : SubBasin) : Type 0 where
-  pub in-words : Within (words m (2 ^ 33) (s .fixed) (s .contents) (s .line .lag))
+  pub in-words : Within (words m mostSlow (s .fixed) (s .contents) (s .line .lag))
   pub in-line : UpTo (2 ^ 50) (s .line .waiting)
   pub unused : UpTo 0 (drop (s .line .lag) (s .line .waiting))
   pub in-channel : s .channel ≤ 2 ^ 56
@@ -61,14 +61,14 @@ pub record RecordIn (m : ℕ) (s : SubBasin) : Type 0 where
 pub record-limits : (m : ℕ) (s : SubBasin) → recordIn m s ≡ true → RecordIn m s
 unfolding recordIn lineIn
 record-limits m s t =
-    let ws = wordsIn (words m (2 ^ 33) (s .fixed) (s .contents) (s .line .lag)) in
+    let ws = wordsIn (words m mostSlow (s .fixed) (s .contents) (s .line .lag)) in
     let us = allUpTo (2 ^ 50) (s .line .waiting) in
     let zs = allUpTo 0 (drop (s .line .lag) (s .line .waiting)) in
     let a = and-eq-true-iff (ws && (us && zs)) (leb (s .channel) (2 ^ 56)) .0 t in
     let b = and-eq-true-iff ws (us && zs) .0 (a .0) in
     let l = and-eq-true-iff us zs .0 (b .1) in
     record {
-      in-words = words-limits (words m (2 ^ 33) (s .fixed) (s .contents) (s .line .lag)) (b .0);
+      in-words = words-limits (words m mostSlow (s .fixed) (s .contents) (s .line .lag)) (b .0);
       in-line = all-limits (2 ^ 50) (s .line .waiting) (l .0);
       unused = all-limits 0 (drop (s .line .lag) (s .line .waiting)) (l .1);
       in-channel = leb-true (s .channel) (2 ^ 56) (a .1);
@@ -79,7 +79,7 @@ unfolding recordIn lineIn
 record-in m s h =
     both
     (both
-    (words-in (words m (2 ^ 33) (s .fixed) (s .contents) (s .line .lag)) (h .in-words))
+    (words-in (words m mostSlow (s .fixed) (s .contents) (s .line .lag)) (h .in-words))
     (both (all-in (2 ^ 50) (s .line .waiting) (h .in-line)) (all-in 0 (drop (s .line .lag) (s .line .waiting)) (h .unused))))
     (le-leb (s .channel) (2 ^ 56) (h .in-channel))
 
@@ -173,7 +173,7 @@ line-high line t n = rw (sym t ∙ n)
 
 module _ (m : ℕ) (s : SubBasin) where
   abbrev its-words : List Word
-  its-words = words m (2 ^ 33) (s .fixed) (s .contents) (s .line .lag)
+  its-words = words m mostSlow (s .fixed) (s .contents) (s .line .lag)
 
   pub words-fail : (ws : List Word) (n : ℕ) → ws ≡ its-words → n ≡ firstOut ws → (n ≡ 23 → ⊥) → recordIn m s ≡ false
   unfolding recordIn

@@ -1,5 +1,5 @@
 -- A sub-basin's share of the content: document 01, "The store law".
-use Prim.Native.Nat.{ℕ, zero, _+_, _*_}
+use Prim.Native.Nat.{ℕ, _+_, _*_}
 use mathlib.Core.List.{List, [], _∷_}
 use Rattle.subbasin.specs.declared.record.SubBasin.{SubBasin}
 

@@ -1,6 +1,6 @@
 -- Document 01, "One sub-basin, one step": free water and its three parts.
 use Prim.Native.Nat.{ℕ, _+_, _-_, _*_, _/_, min}
-use mathlib.Core.Bool.{Bool, cond}
+use mathlib.Core.Bool.{cond}
 use lib.Dec.{ltb}
 use Rattle.curve.specs.Shares.{one}
 use Rattle.curve.specs.Capacity.{held, ordinate}

@@ -1,5 +1,5 @@
 -- Document 01, "The store law": the lag line.
-use Prim.Native.Nat.{ℕ, suc, _-_}
+use Prim.Native.Nat.{ℕ, _-_}
 use mathlib.Core.List.{List, [], _∷_, _++_}
 use lib.ListN.{getD, take, replicate}
 use Rattle.subbasin.specs.declared.lag.LagLine.{LagLine}

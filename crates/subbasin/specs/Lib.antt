@@ -6,3 +6,4 @@ pub mod Lag
 pub mod Limits
 pub mod Step
 pub mod Content
+pub mod Cases

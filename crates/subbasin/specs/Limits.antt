@@ -1,5 +1,5 @@
 -- The ranges of document 01's "The basin file" on which the stages of a step rest, as facts: what their callers show.
-use Prim.Native.Nat.{ℕ, _+_, _≤_}
+use Prim.Native.Nat.{_+_, _≤_}
 use Rattle.curve.specs.Shares.{one}
 use Rattle.subbasin.specs.declared.record.Parameters.{Parameters}
 use Rattle.subbasin.specs.declared.soil.Layers.{Layers}

@@ -1,10 +1,10 @@
 -- A sub-basin's record and its limits: document 01, "The basin file" and 9 and 10 of "Who sent it".
-use Prim.Native.Nat.{ℕ, zero, suc, _+_, _-_, _*_, _^_}
+use Prim.Native.Nat.{ℕ, suc, _-_, _^_}
 use mathlib.Core.Bool.{Bool, true, cond, _&&_}
 use mathlib.Core.List.{List, [], _∷_}
-use lib.Dec.{leb, eqb}
+use lib.Dec.{leb}
 use lib.ListN.{drop}
-use Rattle.curve.specs.Shares.{one, within}
+use Rattle.curve.specs.Shares.{within}
 use Rattle.subbasin.specs.declared.record.Parameters.{Parameters}
 use Rattle.subbasin.specs.declared.record.Contents.{Contents}
 use Rattle.subbasin.specs.declared.record.SubBasin.{SubBasin}
@@ -74,6 +74,10 @@ allUpTo b (x ∷ xs) = leb x b && allUpTo b xs
 unfoldable pub lineIn : LagLine → Bool
 lineIn line = allUpTo (2 ^ 50) (line .waiting) && allUpTo 0 (drop (line .lag) (line .waiting))
 
+-- "VI and VG have 0..2^33 here instead"
+abbrev pub mostSlow : ℕ
+mostSlow = 2 ^ 33
+
 -- A record that 9 allows, with REACH up to m.
 unfoldable pub recordIn : ℕ → SubBasin → Bool
-recordIn m s = wordsIn (words m (2 ^ 33) (s .fixed) (s .contents) (s .line .lag)) && lineIn (s .line) && leb (s .channel) (2 ^ 56)
+recordIn m s = wordsIn (words m mostSlow (s .fixed) (s .contents) (s .line .lag)) && lineIn (s .line) && leb (s .channel) (2 ^ 56)

@@ -5,7 +5,6 @@ use lib.Dec.{leb}
 use Rattle.curve.specs.Shares.{one}
 use Rattle.curve.specs.declared.store.Store.{Store}
 use Rattle.curve.specs.Store.{outflow, content}
-use Rattle.subbasin.specs.declared.record.Parameters.{Parameters}
 use Rattle.subbasin.specs.declared.record.Contents.{Contents}
 use Rattle.subbasin.specs.declared.record.SubBasin.{SubBasin}
 use Rattle.subbasin.specs.declared.step.Stepped.{Stepped}

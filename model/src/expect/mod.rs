@@ -1,12 +1,17 @@
 //! What each test program must print, one file a program.
 
+mod basin_series;
 mod curve_cases;
+mod draft;
 mod draw;
+mod file_cases;
+mod forcing_cases;
 mod subbasin_series;
 
 use std::io::{self, Write};
 
-const NAMES: [&str; 2] = ["curve_cases", "subbasin_series"];
+const NAMES: [&str; 5] =
+    ["curve_cases", "subbasin_series", "forcing_cases", "file_cases", "basin_series"];
 
 pub fn names(out: &mut impl Write) -> io::Result<()> {
     NAMES.iter().try_for_each(|name| writeln!(out, "{name}"))
@@ -16,6 +21,9 @@ pub fn print(name: &str, out: &mut impl Write) -> io::Result<()> {
     match name {
         "curve_cases" => curve_cases::print(out),
         "subbasin_series" => subbasin_series::print(out),
+        "forcing_cases" => forcing_cases::print(out),
+        "file_cases" => file_cases::print(out),
+        "basin_series" => basin_series::print(out),
         _ => Err(io::Error::other(format!("no test program is called {name}"))),
     }
 }

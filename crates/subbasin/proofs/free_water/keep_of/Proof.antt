@@ -1,5 +1,5 @@
 -- `subbasin::free_water::keep_of` meets its contract: the test is the definition's own. Assumes nothing.
-use mathlib.Core.Path.{_≡_, ap, ap₂, _∙_}
+use mathlib.Core.Path.{_≡_}
 use Prim.Native.Nat.{ℕ, _+_, _*_, _/_, _≤_, min}
 use native.Mathlib.Nat.{mul-le-mul, le-trans}
 use native.Mathlib.Omega.{arith}

@@ -1,7 +1,7 @@
 -- `subbasin::lag::up_to` meets its contract. The invariant of its loop: the amounts from place i on give the answer.
 -- The measure is the count of places that are left. Assumes nothing.
 use mathlib.Core.Path.{_≡_, refl, sym, ap, _∙_}
-use Prim.Native.Nat.{ℕ, _-_, _≤_}
+use Prim.Native.Nat.{_-_}
 use native.Mathlib.Omega.{arith}
 use lib.ListN.{length, drop, drop-of-length-le}
 use Rattle.subbasin.specs.Record.{allUpTo}

@@ -1,5 +1,5 @@
 -- `subbasin::step::route` meets its contract: no store is outside its limits, and no sum too large. Assumes nothing.
-use mathlib.Core.Path.{_≡_, refl, sym, ap, ap₂, _∙_}
+use mathlib.Core.Path.{_≡_, ap, ap₂, _∙_}
 use mathlib.Core.List.{_∷_}
 use Prim.Native.Nat.{ℕ, _+_, _*_, _^_, _≤_}
 use native.Mathlib.Omega.{arith}

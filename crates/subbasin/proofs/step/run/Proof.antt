@@ -14,7 +14,7 @@ use Rattle.subbasin.specs.Soil.{ep, evaporated, runoff}
 use Rattle.subbasin.specs.FreeWater.{parted}
 use Rattle.subbasin.specs.Step.{layersOf, with-parted, with-runoff, with-evaporated, stepped}
 use Rattle.subbasin.proofs.RecordLaws.{RecordIn, record-limits}
-use Rattle.subbasin.proofs.SoilLaws.{Evaporates, Runs, soil-in, layers-in, ep-most, evaporation, evaporation-in, runs}
+use Rattle.subbasin.proofs.SoilLaws.{soil-in, layers-in, ep-most, evaporation, evaporation-in, runs}
 use Rattle.subbasin.proofs.FreeWaterLaws.{Parts, free-in, g-in, parts}
 use Rattle.subbasin.proofs.step.run.Statement.{statement}
 use Rattle.subbasin.proofs.step.run.Tie as tie

@@ -1,11 +1,11 @@
 -- `subbasin::step::step` meets its contract. Assumes nothing.
 use mathlib.Core.Path.{_≡_, sym, _∙_}
-use mathlib.Core.Bool.{true, false, true≢false}
+use mathlib.Core.Bool.{false, true≢false}
 use native.Mathlib.Omega.{arith}
 use Rattle.subbasin.specs.declared.record.SubBasin.{SubBasin}
 use Rattle.subbasin.specs.Record.{recordIn}
 use Rattle.subbasin.proofs.RecordLaws.{RecordIn, record-in, record-limits}
-use Rattle.subbasin.proofs.CallLaws.{CallIn, step-accepts, step-refuses}
+use Rattle.subbasin.proofs.CallLaws.{step-accepts, step-refuses}
 use borrow.Author.Needs.{needs}
 use Rattle.subbasin.proofs.step.step.Statement.{statement}
 use Rattle.subbasin.proofs.step.step.Tie as tie

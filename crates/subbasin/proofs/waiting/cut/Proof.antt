@@ -1,8 +1,8 @@
 -- `subbasin::waiting::cut` meets its contract. The invariant of its loop: up to place i the array is as it is to be, and it
 -- has 15 places. The measure is the count of places that are left. Assumes nothing.
-use mathlib.Core.Path.{_≡_, refl, sym, ap, _∙_}
+use mathlib.Core.Path.{_≡_, sym, ap, _∙_}
 use mathlib.Core.List.{List, [], _∷_, _++_}
-use Prim.Native.Nat.{ℕ, suc, _+_, _-_, _≤_, _<_}
+use Prim.Native.Nat.{ℕ, _+_, _-_, _≤_, _<_}
 use native.Mathlib.Numerals.{add-one}
 use native.Mathlib.Omega.{arith}
 use lib.ListN.{length, getD, take, set, replicate, length-append, length-replicate, length-set, getD-replicate}

@@ -1,0 +1,153 @@
+-- `basin::file::load` meets its contract: each way out is a law of `proofs/FileLaws.antt`. Assumes nothing.
+use mathlib.Core.Path.{_≡_, _∙_}
+use mathlib.Core.List.{List}
+use Prim.Native.Nat.{ℕ}
+use native.Mathlib.Omega.{arith}
+use Rattle.basin.specs.declared.file.Loaded.{Loaded}
+use Rattle.basin.specs.File.{loadCall}
+use Rattle.basin.specs.Account.{Demand3}
+use Rattle.basin.proofs.AccountLaws.{demand-3}
+use Rattle.basin.proofs.FileLaws.{load-short, load-n, load-m, load-size, load-word, load-all, out-le}
+use borrow.Author.Needs.{needs}
+use Rattle.basin.proofs.file.load.Statement.{statement}
+use Rattle.basin.proofs.file.load.Tie as tie
+
+-- the answer's equation, and with it demand 3
+both : (f : List ℕ) {r : Loaded} → r ≡ loadCall f → (r ≡ loadCall f) × Demand3 f r
+both f e = (e, demand-3 f e)
+
+refuse-requires : tie.Need-refuse-requires
+refuse-requires c κs = search needs
+
+returns : tie.Need-returns
+returns c = both _ (c .refuse .ensures ∙ load-short _ (c .before .if1 .taken))
+
+word-at-requires : tie.Need-word-at-requires
+word-at-requires c κs = search needs
+
+refuse-requires-2 : tie.Need-refuse-requires-2
+refuse-requires-2 c κs = search needs
+
+returns-2 : tie.Need-returns-2
+returns-2 c =
+    let read = c .before .before in
+    both _
+    (c .refuse2 .ensures ∙ load-n _ (read .before .if1 .left) (read .word-at .ensures .0) (λ l h. omega arith))
+
+refuse-requires-3 : tie.Need-refuse-requires-3
+refuse-requires-3 c κs = search needs
+
+returns-3 : tie.Need-returns-3
+returns-3 c =
+    let read = c .before .before .before in
+    both _
+    (c .refuse3 .ensures ∙ load-n _ (read .before .if1 .left) (read .word-at .ensures .0) (λ l h. omega arith))
+
+word-at-requires-2 : tie.Need-word-at-requires-2
+word-at-requires-2 c κs = search needs
+
+refuse-requires-4 : tie.Need-refuse-requires-4
+refuse-requires-4 c κs = search needs
+
+returns-4 : tie.Need-returns-4
+returns-4 c =
+    let read = c .before .before in
+    let least = read .before .before in
+    let first = least .before in
+    both _
+    (c .refuse4 .ensures
+    ∙ load-m _ (first .before .if1 .left) (first .word-at .ensures .0) (least .if2 .left) (read .before .if3 .left) (read .word-at2 .ensures .0)
+    (c .before .if4 .taken))
+
+mul-words : tie.Need-mul-words
+mul-words c = search needs
+
+mul-words-2 : tie.Need-mul-words-2
+mul-words-2 c = search needs
+
+add-words : tie.Need-add-words
+add-words c = search needs
+
+add-if5 : tie.Need-add-if5
+add-if5 c = search needs
+
+mul-if5 : tie.Need-mul-if5
+mul-if5 c = search needs
+
+refuse-requires-5 : tie.Need-refuse-requires-5
+refuse-requires-5 c κs = search needs
+
+returns-5 : tie.Need-returns-5
+returns-5 c =
+    let read = c .before .before .before in
+    let least = read .before .before in
+    let first = least .before in
+    both _
+    (c .refuse5 .ensures
+    ∙ load-size _ (first .before .if1 .left) (first .word-at .ensures .0) (least .if2 .left) (read .before .if3 .left)
+    (read .word-at2 .ensures .0) (c .before .before .if4 .left) (c .before .if5 .taken))
+
+first-out-requires : tie.Need-first-out-requires
+first-out-requires c κs = search needs
+
+add-refuse : tie.Need-add-refuse
+add-refuse c = omega (arith, out-le _ _ _ (c .before .first-out .ensures))
+
+refuse-requires-6 : tie.Need-refuse-requires-6
+refuse-requires-6 c κs = search needs
+
+returns-6 : tie.Need-returns-6
+returns-6 c =
+    let read = c .before .before .before .before .before in
+    let least = read .before .before in
+    let first = least .before in
+    both _
+    (c .refuse6 .ensures
+    ∙ load-word _ (first .before .if1 .left) (first .word-at .ensures .0) (least .if2 .left) (read .before .if3 .left)
+    (read .word-at2 .ensures .0) (c .before .before .before .before .if4 .left) (c .before .before .before .if5 .left)
+    (c .before .before .first-out .ensures) (c .before .if6 .taken))
+
+subs-of-requires : tie.Need-subs-of-requires
+subs-of-requires c κs = search needs
+
+reaches-of-requires : tie.Need-reaches-of-requires
+reaches-of-requires c κs = search needs
+
+returns-7 : tie.Need-returns-7
+returns-7 c =
+    let read = c .before .before .before .before .before .before in
+    let least = read .before .before in
+    let first = least .before in
+    both _
+    (load-all _ (first .before .if1 .left) (first .word-at .ensures .0) (least .if2 .left) (read .before .if3 .left)
+    (read .word-at2 .ensures .0) (c .before .before .before .before .before .if4 .left) (c .before .before .before .before .if5 .left)
+    (c .before .before .before .first-out .ensures) (c .before .before .if6 .left) (c .before .subs-of .ensures) (c .reaches-of .ensures))
+
+pub load-spec : {M : Type 1} → statement M
+load-spec =
+    tie.close
+    (tie.spec
+    refuse-requires
+    returns
+    word-at-requires
+    refuse-requires-2
+    returns-2
+    refuse-requires-3
+    returns-3
+    word-at-requires-2
+    refuse-requires-4
+    returns-4
+    mul-words
+    mul-words-2
+    add-words
+    add-if5
+    mul-if5
+    refuse-requires-5
+    returns-5
+    first-out-requires
+    add-refuse
+    refuse-requires-6
+    returns-6
+    subs-of-requires
+    reaches-of-requires
+    returns-7)

@@ -1,0 +1,102 @@
+// The series that are run: a line for each, with its shape, its choice of words, N, M and its checksum.
+use crate::drafts;
+use crate::drafts::Choice;
+use crate::drafts::Plan;
+use crate::drafts::Shape;
+use crate::lines;
+use crate::places;
+use crate::series;
+
+// N and M.
+const SIZES: [u64; 12] = [32, 31, 7, 5, 1, 0, 2, 1, 32, 0, 1, 31];
+
+// Series of every shape with every choice and every size, and then from brimming basins of every shape; the generator goes on from
+// series to series.
+pub fn rows() {
+    let mut x = 1;
+    for k in 0..128 {
+        x = if k < 120 { row(k, x) } else { brimming(k, x) };
+    }
+}
+
+fn row(k: u64, x: u64) -> u64 {
+    let size = (k / 20 % 6) as usize;
+    let plan = Plan {
+        choice: choice(k / 4 % 5),
+        shape: shape(k % 4),
+        n: SIZES[2 * size],
+        m: SIZES[2 * size + 1],
+    };
+    let start = drafts::loaded(plan, x);
+    let ran = series::run(start.basin, start.x, 320);
+    if k % 24 == 0 {
+        lines::basin(ran.basin);
+    }
+    shape_name(k % 4);
+    choice_name(k / 4 % 5);
+    lines::number(plan.n);
+    lines::number(plan.m);
+    lines::number(ran.h);
+    lines::end();
+    ran.x
+}
+
+// Where not all flows at once, the first step leaves stores above their limits, and the others are refused.
+fn brimming(k: u64, x: u64) -> u64 {
+    let plan = Plan {
+        choice: Choice::Most,
+        shape: shape(k % 4),
+        n: 32,
+        m: 31,
+    };
+    let at_once = k / 4 % 2 == 0;
+    let start = drafts::loaded(plan, x);
+    let ran = series::run(places::brimming(start.basin, at_once), start.x, 80);
+    shape_name(k % 4);
+    if at_once {
+        lines::word(b" at once");
+    } else {
+        lines::word(b" brimming");
+    }
+    lines::number(ran.h);
+    lines::end();
+    ran.x
+}
+
+fn shape(k: u64) -> Shape {
+    match k {
+        0 => Shape::Chain,
+        1 => Shape::Star,
+        2 => Shape::Tree,
+        _ => Shape::Any,
+    }
+}
+
+fn choice(k: u64) -> Choice {
+    match k {
+        0 => Choice::Ordinary,
+        1 => Choice::Least,
+        2 => Choice::Most,
+        3 => Choice::End,
+        _ => Choice::Any,
+    }
+}
+
+fn shape_name(k: u64) {
+    match k {
+        0 => lines::word(b"chain"),
+        1 => lines::word(b"star"),
+        2 => lines::word(b"tree"),
+        _ => lines::word(b"any"),
+    }
+}
+
+fn choice_name(k: u64) {
+    match k {
+        0 => lines::word(b" ordinary"),
+        1 => lines::word(b" least"),
+        2 => lines::word(b" most"),
+        3 => lines::word(b" ends"),
+        _ => lines::word(b" any"),
+    }
+}

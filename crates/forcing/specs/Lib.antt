@@ -1,0 +1,3 @@
+-- Document 01 as definitions: the forcing list.
+pub mod Forcing
+pub mod Workers
