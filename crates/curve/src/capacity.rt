@@ -1,7 +1,7 @@
 // The capacity curve: document 01, "The capacity curve". Shares are in parts of 65,536, capacities in µm.
 ghost use mathlib.Core.Path.{_≡_};
 ghost use mathlib.Core.Bool.{not};
-ghost use Prim.Native.Nat.{_*_, _/_, _≤_, _<_};
+ghost use Prim.Native.Nat.{_+_, _≤_, _<_};
 ghost use Rattle.curve.specs.Capacity.{root, curveIn, whole, part, power, held, ordinate, value, refused, rootCall, powerCall, heldCall, ordinateCall};
 
 // What a call of the curve answers: number and place are 0 where it is accepted.
@@ -20,6 +20,8 @@ const MOST_E: u64 = 48;
 const MOST_C: u64 = 500000;
 
 const MOST_M: u64 = 2000000;
+
+const GUESSES: u64 = 8;
 
 // The greatest r with r * r <= t * 65,536.
 pub fn root(t: u64) -> Answer
@@ -178,34 +180,118 @@ fn part_of(e: u64, b: u64, r: u64, x: u64) -> u64
     if e % 16 / b % 2 == 1 { x * r / ONE } else { x }
 }
 
+// A point of the curve: the share above it, the power of that share, and what is held below it.
+struct Point {
+    share: u64,
+    power: u64,
+    held: u64,
+}
+
+fn point_at(c: u64, m: u64, e: u64, a: u64) -> Point
+    requires { ⌜ (c ≤ 500000) × (0 < m) × (m ≤ 2000000) × (a ≤ m) ⌝ }
+    ensures { λ r. ⌜ (r .held ≡ held c m e a) × (r .share ≤ 65536) × (r .power ≤ 65536) ⌝ }
+{
+    let t = (m - a) * ONE / m;
+    let p = power_of(t, e);
+    Point {
+        share: t,
+        power: p,
+        held: c - c * p / ONE,
+    }
+}
+
 fn held_of(c: u64, m: u64, e: u64, a: u64) -> u64
     requires { ⌜ (c ≤ 500000) × (0 < m) × (m ≤ 2000000) × (a ≤ m) ⌝ }
     ensures { λ r. ⌜ r ≡ held c m e a ⌝ }
 {
-    let t = (m - a) * ONE / m;
-    c - c * power_of(t, e) / ONE
+    let p = point_at(c, m, e, a);
+    p.held
 }
 
-// The interval from lo to hi is narrowed: lo holds at most w, hi holds more.
+// The interval from lo to hi is narrowed: lo holds at most w, hi holds more. Where it is tried is a guess for the first turns
+// and then its middle; any point between lo and hi will do.
 fn ordinate_of(c: u64, m: u64, e: u64, w: u64) -> u64
-    requires { ⌜ (c ≤ 500000) × (0 < m) × (m ≤ 2000000) × (16 ≤ e) × (w ≤ c) ⌝ }
+    requires { ⌜ (c ≤ 500000) × (0 < m) × (m ≤ 2000000) × (16 ≤ e) × (e ≤ 48) × (w ≤ c) ⌝ }
     ensures { λ r. ⌜ r ≡ ordinate c m e w ⌝ }
 {
     if w == c {
         return m;
     }
+    // a point that holds at most w has at least this power
+    let need = ((c - w) * ONE + c - 1) / c;
     let mut lo = 0;
     let mut hi = m;
+    let mut next = guess(m, e, need, ONE, ONE);
+    let mut turns = GUESSES;
     let a = loop {
-        let mid = lo + (hi - lo) / 2;
-        if mid == lo {
+        if hi - lo <= 1 {
             break lo;
         }
-        if held_of(c, m, e, mid) <= w {
-            lo = mid;
+        let at = between(lo, hi, next, turns);
+        let p = point_at(c, m, e, at);
+        next = guess(m, e, need, p.share, p.power);
+        turns = one_less(turns);
+        if p.held <= w {
+            lo = at;
         } else {
-            hi = mid;
+            hi = at;
         }
     };
     a
+}
+
+// Newton's step on the power from the share t, as the last ordinate of the share that it comes to, or the one after t's own.
+fn guess(m: u64, e: u64, need: u64, t: u64, p: u64) -> u64
+    requires { ⌜ (m ≤ 2000000) × (16 ≤ e) × (e ≤ 48) × (need ≤ 65537) × (t ≤ 65536) × (p ≤ 65536) ⌝ }
+{
+    if p == 0 {
+        return 0;
+    }
+    if need <= p {
+        let d = (p - need) * 16 * t / (e * p);
+        if d == 0 {
+            return last_of(m, t) + 1;
+        }
+        if t < d {
+            return 0;
+        }
+        return last_of(m, t - d);
+    }
+    let d = (need - p) * 16 * t / (e * p) + 1;
+    if ONE - t < d {
+        return 0;
+    }
+    last_of(m, t + d)
+}
+
+// The last ordinate above which the share is at least t.
+fn last_of(m: u64, t: u64) -> u64
+    requires { ⌜ (m ≤ 2000000) × (t ≤ 65536) ⌝ }
+    ensures { λ r. ⌜ r ≤ m ⌝ }
+{
+    m - (t * m + (ONE - 1)) / ONE
+}
+
+// The guess where it lies between lo and hi, while there are turns for it, and else their middle.
+fn between(lo: u64, hi: u64, guessed: u64, turns: u64) -> u64
+    requires { ⌜ (lo + 1 < hi) × (hi ≤ 2000000) ⌝ }
+    ensures { λ r. ⌜ (lo < r) × (r < hi) ⌝ }
+{
+    if turns == 0 {
+        return lo + (hi - lo) / 2;
+    }
+    if guessed <= lo {
+        return lo + (hi - lo) / 2;
+    }
+    if hi <= guessed {
+        return lo + (hi - lo) / 2;
+    }
+    guessed
+}
+
+fn one_less(x: u64) -> u64 {
+    if x == 0 {
+        return 0;
+    }
+    x - 1
 }

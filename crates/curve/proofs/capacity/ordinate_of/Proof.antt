@@ -1,58 +1,88 @@
 -- `curve::capacity::ordinate_of` meets its contract. The invariant of its loop: the point lo holds at most w, the point hi
--- more. The measure is the length of the interval. Assumes nothing.
+-- more; where it is tried between them does not matter. The measure is the length of the interval. Assumes nothing.
 use mathlib.Core.Path.{_≡_, sym, ap, subst, _∙_}
-use Prim.Native.Nat.{ℕ, _+_, _-_, _/_, _≤_, _<_}
+use Prim.Native.Nat.{ℕ, _+_, _-_, _*_, _/_, _≤_, _<_}
+use native.Mathlib.Nat.{div-le-of-le-mul}
 use native.Mathlib.Omega.{arith}
+use Rattle.curve.specs.Shares.{one}
 use Rattle.curve.specs.Capacity.{held, ordinate}
 use Rattle.curve.proofs.HeldLaws.{held-zero, held-top, ordinate-is, ordinate-full}
 use Rattle.curve.proofs.capacity.ordinate_of.Statement.{statement}
 use Rattle.curve.proofs.capacity.ordinate_of.Tie as tie
 
-abbrev Inv-loop : tie.InvT-loop
-Inv-loop c m e w lo₀ hi₀ lo hi = (lo < hi) × (hi ≤ m) × (held c m e lo ≤ w) × (w < held c m e hi)
+need-le : (c w : ℕ) → ((c - w) * one + c - 1) / c ≤ 65537
+need-le c w = div-le-of-le-mul c (omega arith)
 
-abbrev μ-loop : tie.MeasureT-loop
-μ-loop c m e w lo₀ hi₀ lo hi = hi - lo
-
-narrowed : (c m e w lo hi : ℕ) → 0 < m → (lo < hi) × (hi ≤ m) × (held c m e lo ≤ w) × (w < held c m e hi) → lo + (hi - lo) / 2 ≡ lo
-    → lo ≡ ordinate c m e w
+narrowed : (c m e w lo hi : ℕ) → 0 < m → (lo < hi) × (hi ≤ m) × (held c m e lo ≤ w) × (w < held c m e hi) → hi - lo ≤ 1 → lo ≡ ordinate c m e w
 narrowed c m e w lo hi z i h =
     let next : hi ≡ lo + 1 = omega arith in
     sym (ordinate-is c m e w lo z (omega arith) (i .2) (λ _. subst (λ (a : ℕ). w < held c m e a) next (i .3)))
 
+abbrev Inv-loop : tie.InvT-loop
+Inv-loop c m e w need lo₀ hi₀ next₀ turns₀ lo hi next turns = (lo < hi) × (hi ≤ m) × (held c m e lo ≤ w) × (w < held c m e hi)
+
+abbrev μ-loop : tie.MeasureT-loop
+μ-loop c m e w need lo₀ hi₀ next₀ turns₀ lo hi next turns = hi - lo
+
 returns : tie.Need-returns Inv-loop μ-loop
 returns c = sym (ap (ordinate _ _ _) (c .if1 .taken) ∙ ordinate-full _ _ _ (c .before .pre .1) (c .before .pre .3))
 
+sub-need : tie.Need-sub-need Inv-loop μ-loop
+sub-need c = omega arith
+
+mul-need : tie.Need-mul-need Inv-loop μ-loop
+mul-need c = omega arith
+
+add-need : tie.Need-add-need Inv-loop μ-loop
+add-need c = omega arith
+
+sub-need-2 : tie.Need-sub-need-2 Inv-loop μ-loop
+sub-need-2 c = omega arith
+
+div-need : tie.Need-div-need Inv-loop μ-loop
+div-need c = omega arith
+
+guess-requires : tie.Need-guess-requires Inv-loop μ-loop
+guess-requires c κs = (c .before .pre .2, c .before .pre .3, c .before .pre .4, need-le (c .before .args .c) (c .before .args .w), omega arith, omega arith)
+
 loop-holds : tie.Need-loop-holds Inv-loop μ-loop
 loop-holds c =
-    let at = c .before .args in
-    omega (arith, held-zero (at .c) (at .m) (at .e) (c .before .pre .1), held-top (at .c) (at .m) (at .e) (c .before .pre .3))
+    let at = c .before .before .args in
+    omega (arith, held-zero (at .c) (at .m) (at .e) (c .before .before .pre .1), held-top (at .c) (at .m) (at .e) (c .before .before .pre .3))
 
-sub-mid : tie.Need-sub-mid Inv-loop μ-loop
-sub-mid c = omega arith
+sub-if2 : tie.Need-sub-if2 Inv-loop μ-loop
+sub-if2 c = omega arith
 
-add-mid : tie.Need-add-mid Inv-loop μ-loop
-add-mid c = omega arith
+between-requires : tie.Need-between-requires Inv-loop μ-loop
+between-requires c κs = omega arith
 
-held-of-requires : tie.Need-held-of-requires Inv-loop μ-loop
-held-of-requires c κs = omega arith
+point-at-requires : tie.Need-point-at-requires Inv-loop μ-loop
+point-at-requires c κs = omega arith
+
+guess-requires-2 : tie.Need-guess-requires-2 Inv-loop μ-loop
+guess-requires-2 c κs =
+    let pre = c .before .before .before .before .before .before .pre in
+    (pre .2, pre .3, pre .4, need-le (c .before .before .before .before .before .before .args .c) (c .before .before .before .before .before .before .args .w), c .point-at .ensures .1, c .point-at .ensures .2)
+
+one-less-requires : tie.Need-one-less-requires Inv-loop μ-loop
+one-less-requires c κs = tt
 
 loop-less : tie.Need-loop-less Inv-loop μ-loop
 loop-less c = omega arith
 
 loop-again : tie.Need-loop-again Inv-loop μ-loop
-loop-again c = omega arith
+loop-again c = omega (arith, c .before .before .before .before .point-at .ensures .0)
 
 loop-less-2 : tie.Need-loop-less-2 Inv-loop μ-loop
 loop-less-2 c = omega arith
 
 loop-again-2 : tie.Need-loop-again-2 Inv-loop μ-loop
-loop-again-2 c = omega arith
+loop-again-2 c = omega (arith, c .before .before .before .before .point-at .ensures .0)
 
 returns-2 : tie.Need-returns-2 Inv-loop μ-loop
 returns-2 c =
-    let at = c .before .before .before .args in
-    narrowed (at .c) (at .m) (at .e) (at .w) (c .before .loop .lo) (c .before .loop .hi) (c .before .before .before .pre .1) (c .before .loop .inv) (c .if2 .taken)
+    let at = c .before .before .before .before .args in
+    narrowed (at .c) (at .m) (at .e) (at .w) (c .before .loop .lo) (c .before .loop .hi) (c .before .before .before .before .pre .1) (c .before .loop .inv) (c .if2 .taken)
 
 pub ordinate-of-spec : {M : Type 1} → statement M
 ordinate-of-spec =
@@ -61,10 +91,18 @@ ordinate-of-spec =
     Inv-loop
     μ-loop
     returns
+    sub-need
+    mul-need
+    add-need
+    sub-need-2
+    div-need
+    guess-requires
     loop-holds
-    sub-mid
-    add-mid
-    held-of-requires
+    sub-if2
+    between-requires
+    point-at-requires
+    guess-requires-2
+    one-less-requires
     loop-less
     loop-again
     loop-less-2

@@ -1,14 +1,14 @@
--- `curve::capacity::held_of` meets its contract: the share is at most 65,536, and so is its power. Assumes nothing.
+-- `curve::capacity::point_at` meets its contract: the share is at most 65,536, and so is its power. Assumes nothing.
 use mathlib.Core.Path.{_≡_}
 use Prim.Native.Nat.{ℕ, _-_, _*_, _/_, _≤_, _<_}
 use native.Mathlib.Nat.{mul-le-mul, mul-le-mul-left}
 use native.Mathlib.Omega.{arith}
 use Rattle.curve.specs.Shares.{one}
-use Rattle.curve.specs.Capacity.{above, held, power}
+use Rattle.curve.specs.Capacity.{power, above, held}
 use Rattle.curve.proofs.HeldLaws.{above-le-one}
 use borrow.Author.Needs.{needs}
-use Rattle.curve.proofs.capacity.held_of.Statement.{statement}
-use Rattle.curve.proofs.capacity.held_of.Tie as tie
+use Rattle.curve.proofs.capacity.point_at.Statement.{statement}
+use Rattle.curve.proofs.capacity.point_at.Tie as tie
 
 share-le : (m a : ℕ) → 0 < m → (m - a) * one / m ≤ one
 unfolding above
@@ -36,15 +36,14 @@ div-t c = search needs
 power-of-requires : tie.Need-power-of-requires
 power-of-requires c κs = share-le (c .args .m) (c .args .a) (c .pre .1)
 
-mul-result : tie.Need-mul-result
-mul-result c = omega (arith, scaled (c .before .args .c) (c .power-of .result) (c .before .pre .0) (c .power-of .ensures .1))
+mul-t7 : tie.Need-mul-t7
+mul-t7 c = omega (arith, scaled (c .before .args .c) (c .power-of .result) (c .before .pre .0) (c .power-of .ensures .1))
 
-sub-result : tie.Need-sub-result
-sub-result c = part-le (c .before .args .c) (c .power-of .result) (c .power-of .ensures .1)
+sub-t9 : tie.Need-sub-t9
+sub-t9 c = part-le (c .before .args .c) (c .power-of .result) (c .power-of .ensures .1)
 
 returns : tie.Need-returns
-returns c = holds _ _ _ _ _ (c .power-of .ensures .0)
+returns c = (holds (c .before .args .c) _ _ (c .before .args .a) _ (c .power-of .ensures .0), share-le (c .before .args .m) (c .before .args .a) (c .before .pre .1), c .power-of .ensures .1)
 
-pub held-of-spec : {M : Type 1} → statement M
-held-of-spec =
-    tie.close (tie.spec sub-t mul-t div-t power-of-requires mul-result sub-result returns)
+pub point-at-spec : {M : Type 1} → statement M
+point-at-spec = tie.close (tie.spec sub-t mul-t div-t power-of-requires mul-t7 sub-t9 returns)

@@ -1,0 +1,116 @@
+-- `curve::capacity::guess` is safe: each product fits, and no divisor is 0. Assumes nothing.
+use mathlib.Core.Path.{_≡_}
+use Prim.Native.Nat.{ℕ, _-_, _*_, _≤_, _<_}
+use native.Mathlib.Nat.{mul-le-mul, div-le-self}
+use native.Mathlib.Omega.{arith}
+use borrow.Author.Needs.{needs}
+use Rattle.curve.proofs.capacity.guess.Statement.{statement}
+use Rattle.curve.proofs.capacity.guess.Tie as tie
+
+step-fits : (x t : ℕ) → x ≤ 65537 → t ≤ 65536 → x * 16 * t ≤ 65537 * 16 * 65536
+step-fits x t h k = mul-le-mul {n₁ = x * 16} {m₁ = t} {n₂ = 65537 * 16} {m₂ = 65536} (omega arith) k
+
+slope-fits : (e p : ℕ) → e ≤ 48 → p ≤ 65536 → e * p ≤ 48 * 65536
+slope-fits e p h k = mul-le-mul {n₁ = e} {m₁ = p} {n₂ = 48} {m₂ = 65536} h k
+
+slope-some : (e p : ℕ) → 16 ≤ e → (p ≡ 0 → ⊥) → 0 < e * p
+slope-some e p h n = let some : 16 * 1 ≤ e * p = mul-le-mul {n₁ = 16} {m₁ = 1} {n₂ = e} {m₂ = p} h (omega arith) in omega arith
+
+returns : tie.Need-returns
+returns c = search needs
+
+mul-d : tie.Need-mul-d
+mul-d c = search needs
+
+mul-d-2 : tie.Need-mul-d-2
+mul-d-2 c = omega (arith, step-fits (c .before .before .args .p - c .before .before .args .need) (c .before .before .args .t) (omega arith) (omega arith))
+
+mul-d-3 : tie.Need-mul-d-3
+mul-d-3 c = omega (arith, slope-fits (c .before .before .args .e) (c .before .before .args .p) (omega arith) (omega arith))
+
+div-d : tie.Need-div-d
+div-d c = slope-some _ _ (omega arith) (c .before .if1 .left)
+
+last-of-requires : tie.Need-last-of-requires
+last-of-requires c κs = search needs
+
+add-result : tie.Need-add-result
+add-result c = search needs
+
+returns-2 : tie.Need-returns-2
+returns-2 c = search needs
+
+returns-3 : tie.Need-returns-3
+returns-3 c = search needs
+
+last-of-requires-2 : tie.Need-last-of-requires-2
+last-of-requires-2 c κs = search needs
+
+returns-4 : tie.Need-returns-4
+returns-4 c = search needs
+
+sub-d : tie.Need-sub-d
+sub-d c = search needs
+
+mul-d-4 : tie.Need-mul-d-4
+mul-d-4 c = search needs
+
+mul-d-5 : tie.Need-mul-d-5
+mul-d-5 c = omega (arith, step-fits (c .before .before .args .need - c .before .before .args .p) (c .before .before .args .t) (omega arith) (omega arith))
+
+mul-d-6 : tie.Need-mul-d-6
+mul-d-6 c = omega (arith, slope-fits (c .before .before .args .e) (c .before .before .args .p) (omega arith) (omega arith))
+
+div-d-2 : tie.Need-div-d-2
+div-d-2 c = slope-some _ _ (omega arith) (c .before .if1 .left)
+
+add-d : tie.Need-add-d
+add-d c =
+    let at = c .before .before .args in
+    omega (
+      arith,
+      step-fits (at .need - at .p) (at .t) (omega arith) (omega arith),
+      div-le-self ((at .need - at .p) * 16 * at .t) (at .e * at .p),
+    )
+
+sub-if5 : tie.Need-sub-if5
+sub-if5 c = search needs
+
+returns-5 : tie.Need-returns-5
+returns-5 c = search needs
+
+add-last-of : tie.Need-add-last-of
+add-last-of c = search needs
+
+last-of-requires-3 : tie.Need-last-of-requires-3
+last-of-requires-3 c κs = search needs
+
+returns-6 : tie.Need-returns-6
+returns-6 c = search needs
+
+pub guess-spec : {M : Type 1} → statement M
+guess-spec =
+    tie.close
+    (tie.spec
+    returns
+    mul-d
+    mul-d-2
+    mul-d-3
+    div-d
+    last-of-requires
+    add-result
+    returns-2
+    returns-3
+    last-of-requires-2
+    returns-4
+    sub-d
+    mul-d-4
+    mul-d-5
+    mul-d-6
+    div-d-2
+    add-d
+    sub-if5
+    returns-5
+    add-last-of
+    last-of-requires-3
+    returns-6)
