@@ -104,13 +104,24 @@ impl Basin {
             && unused_reaches.iter().all(|reach| *reach == Reach::default())
     }
 
-    pub fn step(self, lines: &[Line; MOST_LINES], count: u64) -> Advanced {
-        match self.depths(lines, count) {
+    /// The step call.
+    pub fn step(mut self, lines: &[Line; MOST_LINES], count: u64) -> Advanced {
+        match self.advance(lines, count) {
             Err((number, place)) => {
                 Advanced { number, place, basin: self, report: Report::default() }
             }
-            Ok(depths) => self.step_of(&depths),
+            Ok(report) => Advanced { number: 0, place: 0, basin: self, report },
         }
+    }
+
+    /// The step in place: its report, or the refusal's number and place.
+    pub fn advance(
+        &mut self,
+        lines: &[Line; MOST_LINES],
+        count: u64,
+    ) -> Result<Report, (u64, u64)> {
+        let depths = self.depths(lines, count)?;
+        Ok(self.step_of(&depths))
     }
 
     /// The lines 1..N as depths, or the refusal's number and place.
@@ -126,18 +137,17 @@ impl Basin {
     }
 
     /// An accepted step.
-    fn step_of(mut self, depths: &[Depths]) -> Advanced {
+    fn step_of(&mut self, depths: &[Depths]) -> Report {
         let mut rain = 0u128;
         let mut evapotranspiration = 0u128;
         // What is sent to the outlet, 0, and to the reaches, 1..M.
         let mut sent = [0u64; MOST_REACHES + 1];
         for (record, line) in self.subs.iter_mut().zip(depths) {
-            let (after, flows) = subbasin::step_of(*record, line.rain, line.pan);
+            let flows = subbasin::advance(record, line.rain, line.pan);
             let area = u128::from(record.area);
             rain += area * u128::from(line.rain);
             evapotranspiration += area * u128::from(flows.eu + flows.el + flows.ed);
             sent[record.reach as usize] += flows.q;
-            *record = after;
         }
         for own in 1..=self.m as usize {
             let reach = &mut self.reaches[own - 1];
@@ -146,14 +156,13 @@ impl Basin {
             reach.content = store.content;
             sent[reach.next as usize] += outflow;
         }
-        let report = Report {
+        Report {
             rain: whole_number(rain),
             evapotranspiration: whole_number(evapotranspiration),
             outlet: sent[0],
             content: self.content(),
             estimated: depths.iter().filter(|line| line.estimated).count() as u64,
-        };
-        Advanced { number: 0, place: 0, basin: self, report }
+        }
     }
 }
 

@@ -61,18 +61,11 @@ fn capacities(c: u64, m: u64) -> bool {
     (1..=GREATEST_C).contains(&c) && (1..=GREATEST_M).contains(&m)
 }
 
-/// The greatest r with r × r ≤ t × 65,536: the machine's square root, put right in whole numbers.
+/// The greatest r with r × r ≤ t × 65,536: the machine's square root, cut to a whole number. The
+/// square is at most 2^32, so a root below a whole number is so by more than the machine rounds.
 #[inline]
 pub fn root_of(t: u64) -> u64 {
-    let square = t * WHOLE;
-    let mut r = (square as f64).sqrt() as u64;
-    while r * r > square {
-        r -= 1;
-    }
-    while (r + 1) * (r + 1) <= square {
-        r += 1;
-    }
-    r
+    ((t * WHOLE) as f64).sqrt() as u64
 }
 
 /// Power(t, e). The roots are taken only as far as e mod 16 still has bits.

@@ -1,25 +1,52 @@
-//! `model expected` names the test programs, `model expect NAME` prints what NAME must print, and
-//! `model run FOLDER` what the program must print on FOLDER's basin.bin and forcing.bin.
+//! The second model as a program: `model` alone says what it does.
 
-use model::{expect, program};
+use model::{bench, compare, expect, files, program, random, sample};
 use std::io::{self, BufWriter, Write};
 use std::process::ExitCode;
+
+const USAGE: &str = "usage:
+  model run FOLDER                   what the program must print on basin.bin and forcing.bin
+  model case-a FOLDER                makes case A's files
+  model sample FOLDER                makes the sample's files
+  model make SEED FOLDER             makes a random case
+  model compare ACCOUNT FIRST LAST   holds a built program to the model, on cases FIRST to LAST
+  model bench ACCOUNT                times a built program and the model
+  model bench-files FOLDER YEARS SUBBASINS
+  model expected                     names the test programs
+  model expect NAME                  what NAME must print";
 
 fn main() -> ExitCode {
     let words: Vec<String> = std::env::args().skip(1).collect();
     let words: Vec<&str> = words.iter().map(String::as_str).collect();
     let mut out = BufWriter::new(io::stdout().lock());
-    let done = match words[..] {
-        ["expected"] => expect::names(&mut out),
-        ["expect", name] => expect::print(name, &mut out),
-        ["run", folder] => program::run_folder(folder.as_ref(), &mut out),
-        _ => Err(io::Error::other("usage: model expected | model expect NAME | model run FOLDER")),
-    };
-    match done.and_then(|()| out.flush()) {
+    match obey(&words, &mut out).and_then(|()| out.flush()) {
         Ok(()) => ExitCode::SUCCESS,
         Err(error) => {
             eprintln!("model: {error}");
             ExitCode::FAILURE
         }
     }
+}
+
+fn obey(words: &[&str], out: &mut impl Write) -> io::Result<()> {
+    match *words {
+        ["run", folder] => program::run_folder(folder.as_ref(), out),
+        ["case-a", folder] => files::case_a().write(folder.as_ref()),
+        ["sample", folder] => sample::files().write(folder.as_ref()),
+        ["make", seed, folder] => random::write(&random::case(number(seed)?), folder.as_ref()),
+        ["compare", account, first, last] => {
+            compare::compare(account.as_ref(), number(first)?, number(last)?, out)
+        }
+        ["bench", account] => bench::bench(account.as_ref(), out),
+        ["bench-files", folder, years, sub_basins] => {
+            bench::files(number(years)?, number(sub_basins)?).write(folder.as_ref())
+        }
+        ["expected"] => expect::names(out),
+        ["expect", name] => expect::print(name, out),
+        _ => Err(io::Error::other(USAGE)),
+    }
+}
+
+fn number(word: &str) -> io::Result<u64> {
+    word.parse().map_err(|_| io::Error::other(format!("{word} is not a whole number")))
 }

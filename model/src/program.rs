@@ -15,7 +15,8 @@ pub fn run_folder(folder: &Path, out: &mut impl Write) -> io::Result<()> {
     }
 }
 
-fn run(basin: &[u8], mut forcing: impl Read, out: &mut impl Write) -> io::Result<()> {
+/// Runs on the bytes of the two files.
+pub fn run(basin: &[u8], mut forcing: impl Read, out: &mut impl Write) -> io::Result<()> {
     let loaded = load(basin);
     if loaded.number > 0 {
         return writeln!(out, "load {} {}", loaded.number, loaded.place);
@@ -27,15 +28,14 @@ fn run(basin: &[u8], mut forcing: impl Read, out: &mut impl Write) -> io::Result
         if got < bytes.len() {
             return if got > 0 { writeln!(out, "short {got}") } else { Ok(()) };
         }
-        let given = basin.step(&lines(&bytes), basin.n);
-        basin = given.basin;
-        if given.number > 0 {
-            writeln!(out, "{number} refused {} {}", given.number, given.place)?;
-            continue;
+        match basin.advance(&lines(&bytes), basin.n) {
+            Err((refusal, place)) => writeln!(out, "{number} refused {refusal} {place}")?,
+            Ok(r) => {
+                let [rain, et, outlet, content] =
+                    [r.rain, r.evapotranspiration, r.outlet, r.content];
+                writeln!(out, "{number} ok {rain} {et} {outlet} {content} {}", r.estimated)?;
+            }
         }
-        let r = given.report;
-        let [rain, et, outlet, content] = [r.rain, r.evapotranspiration, r.outlet, r.content];
-        writeln!(out, "{number} ok {rain} {et} {outlet} {content} {}", r.estimated)?;
     }
     Ok(())
 }
@@ -70,18 +70,7 @@ fn lines(bytes: &[u8]) -> [Line; MOST_LINES] {
 #[cfg(test)]
 mod tests {
     use super::*;
-    use crate::record::CASE_A;
-
-    fn basin_a() -> Vec<u8> {
-        let words = [1, 0].into_iter().chain(CASE_A);
-        words.flat_map(|word| (word as u32).to_le_bytes()).collect()
-    }
-
-    fn forcing(lines: &[(u32, f32, f32)]) -> Vec<u8> {
-        let words =
-            lines.iter().flat_map(|&(kind, rain, pan)| [kind, rain.to_bits(), pan.to_bits()]);
-        words.flat_map(u32::to_le_bytes).collect()
-    }
+    use crate::files::{bytes, case_a, line, ESTIMATED};
 
     fn printed(basin: &[u8], forcing: &[u8]) -> String {
         let mut out = Vec::new();
@@ -90,20 +79,21 @@ mod tests {
     }
 
     #[test]
-    fn case_a() {
-        let steps = forcing(&[(1, 135.0, 0.0), (0, 0.0, 0.0), (1, 0.0, 10.0)]);
+    fn case_a_prints() {
+        let files = case_a();
         let expected = "1 ok 135000 0 26666 108334 0\n2 refused 6 1\n3 ok 0 10000 1110 97224 0\n";
-        assert_eq!(printed(&basin_a(), &steps), expected);
+        assert_eq!(printed(&files.basin, &files.forcing), expected);
     }
 
     #[test]
     fn ends_of_the_input() {
-        assert_eq!(printed(&basin_a(), &[]), "");
-        assert_eq!(printed(&basin_a(), &[1; 11]), "short 11\n");
-        let mut steps = forcing(&[(2, 1.0, 0.0)]);
+        let basin = case_a().basin;
+        assert_eq!(printed(&basin, &[]), "");
+        assert_eq!(printed(&basin, &[1; 11]), "short 11\n");
+        let mut steps = bytes(line(ESTIMATED, 1.0, 0.0));
         steps.push(0);
-        assert_eq!(printed(&basin_a(), &steps), "1 ok 1000 0 0 1000 1\nshort 1\n");
+        assert_eq!(printed(&basin, &steps), "1 ok 1000 0 0 1000 1\nshort 1\n");
         assert_eq!(printed(&[], &steps), "load 1 0\n");
-        assert_eq!(printed(&basin_a()[..96], &steps), "load 3 0\n");
+        assert_eq!(printed(&basin[..96], &steps), "load 3 0\n");
     }
 }

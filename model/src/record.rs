@@ -122,7 +122,6 @@ pub fn range(words: &[u64; WORDS], place: usize, m: u64, waiting_depth: u64) -> 
 }
 
 /// Case A's sub-basin, as the file's words.
-#[cfg(test)]
 #[rustfmt::skip]
 pub const CASE_A: [u64; WORDS] = [
     1, 65_536, 20_000, 60_000, 40_000, 8_192, 24, 0, 20_000, 24, 16_384, 16_384, 32_768, 32_768,

@@ -32,25 +32,25 @@ pub struct Stepped {
 }
 
 /// The sub-basin call, with rain and pan depths in µm.
-pub fn step(record: Record, rain: u64, pan: u64) -> Stepped {
+pub fn step(mut record: Record, rain: u64, pan: u64) -> Stepped {
     if rain > GREATEST_RAIN || pan > GREATEST_PAN || !record.inside() {
         return Stepped { number: 10, place: 0, record, flows: Flows::default() };
     }
-    let (record, flows) = step_of(record, rain, pan);
+    let flows = advance(&mut record, rain, pan);
     Stepped { number: 0, place: 0, record, flows }
 }
 
-/// The step of a record inside its limits.
-pub fn step_of(mut s: Record, rain: u64, pan: u64) -> (Record, Flows) {
+/// The step of a record inside its limits, in place.
+pub fn advance(s: &mut Record, rain: u64, pan: u64) -> Flows {
     let mut f = Flows::default();
     let ep = s.k * pan / WHOLE;
-    let pe = evaporate(&mut s, &mut f, rain, ep);
+    let pe = evaporate(s, &mut f, rain, ep);
     if pe > 0 {
-        produce(&mut s, &mut f, pe);
+        produce(s, &mut f, pe);
     }
-    separate(&mut s, &mut f, pe);
-    f.q = route(&mut s, &f);
-    (s, f)
+    separate(s, &mut f, pe);
+    f.q = route(s, &f);
+    f
 }
 
 /// Evapotranspiration by layer; gives PE.

@@ -1,4 +1,4 @@
-//! What each test program must print, one file a program.
+//! What each program must print on its stored input, one file a test program; `account` runs on case A.
 
 mod basin_series;
 mod curve_cases;
@@ -8,10 +8,11 @@ mod file_cases;
 mod forcing_cases;
 mod subbasin_series;
 
+use crate::{files, program};
 use std::io::{self, Write};
 
-const NAMES: [&str; 5] =
-    ["curve_cases", "subbasin_series", "forcing_cases", "file_cases", "basin_series"];
+const NAMES: [&str; 6] =
+    ["curve_cases", "subbasin_series", "forcing_cases", "file_cases", "basin_series", "account"];
 
 pub fn names(out: &mut impl Write) -> io::Result<()> {
     NAMES.iter().try_for_each(|name| writeln!(out, "{name}"))
@@ -24,6 +25,10 @@ pub fn print(name: &str, out: &mut impl Write) -> io::Result<()> {
         "forcing_cases" => forcing_cases::print(out),
         "file_cases" => file_cases::print(out),
         "basin_series" => basin_series::print(out),
+        "account" => {
+            let files = files::case_a();
+            program::run(&files.basin, &files.forcing[..], out)
+        }
         _ => Err(io::Error::other(format!("no test program is called {name}"))),
     }
 }

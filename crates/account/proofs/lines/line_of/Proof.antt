@@ -1,0 +1,22 @@
+-- `account::lines::line_of` meets its contract. Assumes nothing.
+use Rattle.account.specs.Lines.{lineOf}
+use borrow.Author.Needs.{needs}
+use Rattle.account.proofs.lines.line_of.Statement.{statement}
+use Rattle.account.proofs.lines.line_of.Tie as tie
+
+number-of-requires : tie.Need-number-of-requires
+number-of-requires c κs = search needs
+
+reading-of-requires : tie.Need-reading-of-requires
+reading-of-requires c κs = search needs
+
+number-of-requires-2 : tie.Need-number-of-requires-2
+number-of-requires-2 c κs = search needs
+
+returns : tie.Need-returns
+unfolding lineOf
+returns c = cc
+
+pub line-of-spec : {M : Type 1} → statement M
+line-of-spec =
+    tie.close (tie.spec number-of-requires reading-of-requires number-of-requires-2 returns)

@@ -1,0 +1,102 @@
+//! The benchmark: the built program against the model, on the same files.
+
+use crate::chance::Chance;
+use crate::files::{line, Files, LineWords, MEASURED};
+use crate::record::{range, WORDS};
+use std::fs;
+use std::io::{self, Write};
+use std::path::Path;
+use std::process::{Command, Stdio};
+use std::time::Instant;
+
+/// Runs of each program, of which the best counts.
+const RUNS: usize = 5;
+
+/// Daily steps, all accepted, of a basin with a reach fewer than sub-basins.
+pub fn files(years: u64, sub_basins: u64) -> Files {
+    let mut chance = Chance::new(30);
+    let basin = basin(sub_basins, &mut chance);
+    let steps = 365 * years + years / 4;
+    let lines: Vec<LineWords> = (0..steps).flat_map(|_| day(sub_basins, &mut chance)).collect();
+    Files::of(basin, &lines)
+}
+
+/// Every word from the middle half of its range, so every exponent of the curves is at hand.
+fn basin(n: u64, chance: &mut Chance) -> Vec<u32> {
+    let m = n - 1;
+    let mut words = vec![n, m];
+    for _ in 0..n {
+        let mut sub = [0; WORDS];
+        for place in 0..WORDS {
+            let (least, greatest) = range(&sub, place, m, 100_000);
+            let quarter = (greatest - least) / 4;
+            sub[place] = chance.within(least + quarter, greatest - quarter);
+        }
+        words.extend(sub);
+    }
+    for own in 1..=m {
+        words.extend([20_000, 20_000, if own < m { own + 1 } else { 0 }]);
+    }
+    words.into_iter().map(|word| word as u32).collect()
+}
+
+/// A day in three is wet.
+fn day(n: u64, chance: &mut Chance) -> Vec<LineWords> {
+    let most = if chance.one_in(3) { 400 } else { 0 };
+    let mut tenths = |most| chance.within(0, most) as f32 / 10.0;
+    (0..n).map(|_| line(MEASURED, tenths(most), tenths(60))).collect()
+}
+
+/// Times both programs, best of several: thirty years, then how the time grows.
+pub fn bench(account: &Path, out: &mut impl Write) -> io::Result<()> {
+    let account = fs::canonicalize(account)?;
+    let model = std::env::current_exe()?;
+    let folder = std::env::temp_dir().join(format!("account-bench-{}", std::process::id()));
+    writeln!(out, "years sub-basins     account       model   ratio   (best of {RUNS})")?;
+    let mut row = |years, sub_basins| -> io::Result<()> {
+        files(years, sub_basins).write(&folder)?;
+        let ours = best(Command::new(&account).current_dir(&folder))?;
+        let its = best(Command::new(&model).arg("run").arg(&folder))?;
+        let ratio = ours / its;
+        writeln!(out, "{years:5} {sub_basins:11} {ours:9.3} s {its:9.3} s {ratio:7.2}")?;
+        out.flush()
+    };
+    for (years, sub_basins) in
+        [(30, 32), (2, 32), (4, 32), (8, 32), (16, 32), (8, 4), (8, 8), (8, 16), (8, 32)]
+    {
+        row(years, sub_basins)?;
+    }
+    fs::remove_dir_all(&folder)
+}
+
+/// The best time of several runs, in seconds.
+fn best(command: &mut Command) -> io::Result<f64> {
+    command.stdin(Stdio::null()).stdout(Stdio::null());
+    let mut best = f64::INFINITY;
+    for _ in 0..RUNS {
+        let start = Instant::now();
+        let status = command.status()?;
+        if !status.success() {
+            return Err(io::Error::other(format!("a run ended with {status}")));
+        }
+        best = best.min(start.elapsed().as_secs_f64());
+    }
+    Ok(best)
+}
+
+#[cfg(test)]
+mod tests {
+    use super::*;
+    use crate::program::run;
+
+    #[test]
+    fn every_step_is_accepted() {
+        for sub_basins in [1, 4, 32] {
+            let files = files(1, sub_basins);
+            let mut out = Vec::new();
+            run(&files.basin, &files.forcing[..], &mut out).unwrap();
+            let lines = String::from_utf8(out).unwrap();
+            assert_eq!(lines.lines().filter(|line| line.contains(" ok ")).count(), 365);
+        }
+    }
+}
