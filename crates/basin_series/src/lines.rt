@@ -24,10 +24,14 @@ pub fn step(i: u64, given: Outcome) {
 // A basin in full.
 pub fn basin(b: Basin) {
     word(b"basin");
+    numbers(b);
+    end();
+}
+
+fn numbers(b: Basin) {
     for place in 0..1374 {
         number(places::at(b, place));
     }
-    end();
 }
 
 pub fn word(text: &[u8]) {

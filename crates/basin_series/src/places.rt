@@ -24,26 +24,47 @@ pub fn at(b: Basin, place: usize) -> u64 {
 
 // The basin with v at a place.
 pub fn with(b: Basin, place: usize, v: u64) -> Basin {
-    let mut n = b.n;
-    let mut m = b.m;
-    let mut subs = b.subs;
-    let mut reaches = b.reaches;
-    if place == 0 {
-        n = v;
-    } else if place == 1 {
-        m = v;
-    } else if place < 1250 {
-        let i = (place - 2) / 39 % 32;
-        let s = subs[i];
-        subs[i] = rows::sub_of(rows::with(rows::row_of(s), (place - 2) % 39, v));
-    } else {
-        let j = (place - 1250) / 4 % 31;
-        let r = reaches[j];
-        reaches[j] = reach_with(r, (place - 1250) % 4, v);
+    if place < 2 {
+        return with_count(b, place, v);
     }
+    if place < 1250 {
+        return with_record(b, (place - 2) / 39 % 32, (place - 2) % 39, v);
+    }
+    with_reach(b, (place - 1250) / 4 % 31, (place - 1250) % 4, v)
+}
+
+fn with_count(b: Basin, place: usize, v: u64) -> Basin {
+    let subs = b.subs;
+    let reaches = b.reaches;
     Basin {
-        n,
-        m,
+        n: if place == 0 { v } else { b.n },
+        m: if place == 0 { b.m } else { v },
+        subs,
+        reaches,
+    }
+}
+
+fn with_record(b: Basin, i: usize, place: usize, v: u64) -> Basin {
+    let mut subs = b.subs;
+    let reaches = b.reaches;
+    let s = subs[i % 32];
+    subs[i % 32] = rows::sub_of(rows::with(rows::row_of(s), place, v));
+    Basin {
+        n: b.n,
+        m: b.m,
+        subs,
+        reaches,
+    }
+}
+
+fn with_reach(b: Basin, j: usize, place: usize, v: u64) -> Basin {
+    let subs = b.subs;
+    let mut reaches = b.reaches;
+    let r = reaches[j % 31];
+    reaches[j % 31] = reach_with(r, place, v);
+    Basin {
+        n: b.n,
+        m: b.m,
         subs,
         reaches,
     }
@@ -60,21 +81,28 @@ fn reach_with(r: Reach, place: usize, v: u64) -> Reach {
     }
 }
 
-// The least and the most at a place.
+// The least and the most at a place, and what stands below.
 struct Range {
+    below: u64,
     least: u64,
     most: u64,
 }
 
-// A value for a place: 0 below its range, 1 its least, 2 its most, 3 above it, 4 the greatest u64, which stands below 0 too.
+// Below 0 stands the greatest u64.
+fn between(least: u64, most: u64) -> Range {
+    let below = if 0 < least {
+        least - 1
+    } else {
+        18446744073709551615
+    };
+    Range { below, least, most }
+}
+
+// A value for a place: 0 below its range, 1 its least, 2 its most, 3 above it, 4 the greatest u64.
 pub fn edge(b: Basin, place: usize, which: u64) -> u64 {
     let range = range_of(b, place);
     match which {
-        0 => if 0 < range.least {
-            range.least - 1
-        } else {
-            18446744073709551615
-        },
+        0 => range.below,
         1 => range.least,
         2 => range.most,
         3 => range.most % 72057594037927937 + 1,
@@ -139,10 +167,10 @@ fn kind_of(place: usize) -> Kind {
 // where unused.
 fn range_of(b: Basin, place: usize) -> Range {
     if place == 0 {
-        return Range { least: 1, most: 32 };
+        return between(1, 32);
     }
     if place == 1 {
-        return Range { least: 0, most: 31 };
+        return between(0, 31);
     }
     if place < 1250 {
         return record_range(b, (place - 2) / 39 % 32, (place - 2) % 39);
@@ -156,22 +184,16 @@ fn record_range(b: Basin, i: usize, place: usize) -> Range {
     let row = rows::row_of(s);
     let words = row.words;
     if b.n <= i as u64 {
-        return Range { least: 0, most: 0 };
+        return between(0, 0);
     }
-    if place < 23 {
-        let limit = words[ranges::limited_by(place, place) % 23];
-        return Range {
-            least: ranges::least(place, limit),
-            most: ranges::most(place, limit, b.m),
-        };
+    if 23 <= place {
+        return between(0, amount_most(place, words[15]));
     }
-    Range {
-        least: 0,
-        most: amount_most(place, words[15]),
-    }
+    let limit = words[ranges::limited_by(place, place) % 23];
+    between(ranges::least(place, limit), ranges::most(place, limit, b.m))
 }
 
-// An amount in waiting is in use up to the lag.
+// An amount in waiting is in use up to the lag; 38 is the channel store.
 fn amount_most(place: usize, lag: u64) -> u64 {
     if place == 38 {
         return 72057594037927936;
@@ -183,29 +205,22 @@ fn amount_most(place: usize, lag: u64) -> u64 {
     }
 }
 
+// Below next stands the reach's own number.
 fn reach_range(b: Basin, j: usize, place: usize) -> Range {
     let reaches = b.reaches;
     let r = reaches[j % 31];
     let own = j as u64 % 31 + 1;
     if b.m < own {
-        return Range { least: 0, most: 0 };
+        return between(0, 0);
     }
     match place {
-        0 => Range {
-            least: 0,
-            most: 65536,
-        },
-        1 => Range {
-            least: ranges::least(24, r.c0),
-            most: ranges::most(24, r.c0, b.m),
-        },
+        0 => between(0, 65536),
+        1 => between(ranges::least(24, r.c0), ranges::most(24, r.c0, 0)),
         2 => Range {
+            below: own,
             least: 0,
             most: if own < b.m { b.m } else { 0 },
         },
-        _ => Range {
-            least: 0,
-            most: 72057594037927936,
-        },
+        _ => between(0, 72057594037927936),
     }
 }

@@ -27,40 +27,57 @@ fn row(k: u64, x: u64) -> u64 {
         n: SIZES[2 * size],
         m: SIZES[2 * size + 1],
     };
-    let start = drafts::loaded(plan, x);
-    let ran = series::run(start.basin, start.x, 320);
-    if k % 24 == 0 {
-        lines::basin(ran.basin);
-    }
+    let told = steps(plan, x, k % 24 == 0);
     shape_name(k % 4);
     choice_name(k / 4 % 5);
     lines::number(plan.n);
     lines::number(plan.m);
-    lines::number(ran.h);
+    lines::number(told.h);
     lines::end();
-    ran.x
+    told.x
+}
+
+// The generator after a series, and its checksum.
+struct Told {
+    x: u64,
+    h: u64,
+}
+
+// The last basin is printed where asked for.
+fn steps(plan: Plan, x: u64, full: bool) -> Told {
+    let start = drafts::loaded(plan, x);
+    let ran = series::run(start.basin, start.x, 320);
+    if full {
+        lines::basin(ran.basin);
+    }
+    Told { x: ran.x, h: ran.h }
 }
 
 // Where not all flows at once, the first step leaves stores above their limits, and the others are refused.
 fn brimming(k: u64, x: u64) -> u64 {
-    let plan = Plan {
-        choice: Choice::Most,
-        shape: shape(k % 4),
-        n: 32,
-        m: 31,
-    };
     let at_once = k / 4 % 2 == 0;
-    let start = drafts::loaded(plan, x);
-    let ran = series::run(places::brimming(start.basin, at_once), start.x, 80);
+    let told = brimming_steps(shape(k % 4), x, at_once);
     shape_name(k % 4);
     if at_once {
         lines::word(b" at once");
     } else {
         lines::word(b" brimming");
     }
-    lines::number(ran.h);
+    lines::number(told.h);
     lines::end();
-    ran.x
+    told.x
+}
+
+fn brimming_steps(shape: Shape, x: u64, at_once: bool) -> Told {
+    let plan = Plan {
+        choice: Choice::Most,
+        shape,
+        n: 32,
+        m: 31,
+    };
+    let start = drafts::loaded(plan, x);
+    let ran = series::run(places::brimming(start.basin, at_once), start.x, 80);
+    Told { x: ran.x, h: ran.h }
 }
 
 fn shape(k: u64) -> Shape {

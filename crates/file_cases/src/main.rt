@@ -1,6 +1,8 @@
 // The load call: good files of every N and M, every word below and above its range, every length, and files damaged at random. What
 // it must print comes from the second model: `model expect file_cases`.
+mod cases;
 mod checksum;
+mod damage;
 mod drafts;
 mod files;
 mod lines;

@@ -3,89 +3,31 @@ use crate::numbers;
 use forcing::Line;
 use forcing::Reading;
 
-// Lines by number: kind (1 measured, 2 estimated, other missing), rain and pan as patterns. Rows 0 to 8 have bad rain, 9 to 15 bad
-// pan, 16 to 21 both, and 22 and 23 are good: minus zero, and both limits.
-const KINDS: [u64; 24] = [
-    0,
-    1,
-    2,
-    1,
-    2,
-    1,
-    2,
-    1,
-    2,
-    1,
-    2,
-    1,
-    2,
-    1,
-    2,
-    1,
-    0,
-    0,
-    1,
-    2,
-    1,
-    2,
-    2,
-    1,
-];
+const ONE: u64 = 0x3f80_0000;
 
-const RAINS: [u64; 24] = [
-    0x3f80_0000,
-    0x7fc0_0000,
-    0x7fc0_0000,
-    0x7f80_0000,
-    0xff80_0000,
-    0x8000_0001,
-    0xff7f_ffff,
-    0x447a_0001,
-    0x7f7f_ffff,
-    0x3f80_0000,
-    0x3f80_0000,
-    0x3f80_0000,
-    0x3f80_0000,
-    0x3f80_0000,
-    0x3f80_0000,
-    0x3f80_0000,
-    0x3f80_0000,
-    0x447a_0001,
-    0x447a_0001,
-    0x7fc0_0000,
-    0xff80_0000,
-    0x447a_0001,
-    0x8000_0000,
-    0x447a_0000,
-];
+const NAN: u64 = 0x7fc0_0000;
 
-const PANS: [u64; 24] = [
-    0x3f80_0000,
-    0x3f80_0000,
-    0x3f80_0000,
-    0x3f80_0000,
-    0x3f80_0000,
-    0x3f80_0000,
-    0x3f80_0000,
-    0x3f80_0000,
-    0x3f80_0000,
-    0x7fc0_0000,
-    0x7f80_0000,
-    0xff80_0000,
-    0x8000_0001,
-    0xff7f_ffff,
-    0x42c8_0001,
-    0x7f7f_ffff,
-    0x7fc0_0000,
-    0x42c8_0001,
-    0x7fc0_0000,
-    0x42c8_0001,
-    0xff80_0000,
-    0x42c8_0001,
-    0x8000_0000,
-    0x42c8_0000,
-];
+const INFINITE: u64 = 0x7f80_0000;
 
+const MINUS_INFINITE: u64 = 0xff80_0000;
+
+const MINUS_ZERO: u64 = 0x8000_0000;
+
+const BELOW_ZERO: u64 = 0x8000_0001;
+
+const FAR_BELOW: u64 = 0xff7f_ffff;
+
+const FAR_ABOVE: u64 = 0x7f7f_ffff;
+
+const RAIN_LIMIT: u64 = 0x447a_0000;
+
+const ABOVE_RAIN: u64 = 0x447a_0001;
+
+const PAN_LIMIT: u64 = 0x42c8_0000;
+
+const ABOVE_PAN: u64 = 0x42c8_0001;
+
+// Kind (1 measured, 2 estimated, other missing), rain and pan as patterns.
 fn line(kind: u64, rain: u64, pan: u64) -> Line {
     let depth = numbers::number(rain);
     let reading = match kind {
@@ -99,9 +41,34 @@ fn line(kind: u64, rain: u64, pan: u64) -> Line {
     }
 }
 
+// Lines by number: bad rain, bad pan, both, and the last two good.
 pub fn chosen(f: u64) -> Line {
-    let row = (f % 24) as usize;
-    line(KINDS[row], RAINS[row], PANS[row])
+    match f % 24 {
+        0 => line(0, ONE, ONE),
+        1 => line(1, NAN, ONE),
+        2 => line(2, NAN, ONE),
+        3 => line(1, INFINITE, ONE),
+        4 => line(2, MINUS_INFINITE, ONE),
+        5 => line(1, BELOW_ZERO, ONE),
+        6 => line(2, FAR_BELOW, ONE),
+        7 => line(1, ABOVE_RAIN, ONE),
+        8 => line(2, FAR_ABOVE, ONE),
+        9 => line(1, ONE, NAN),
+        10 => line(2, ONE, INFINITE),
+        11 => line(1, ONE, MINUS_INFINITE),
+        12 => line(2, ONE, BELOW_ZERO),
+        13 => line(1, ONE, FAR_BELOW),
+        14 => line(2, ONE, ABOVE_PAN),
+        15 => line(1, ONE, FAR_ABOVE),
+        16 => line(0, ONE, NAN),
+        17 => line(0, ABOVE_RAIN, ABOVE_PAN),
+        18 => line(1, ABOVE_RAIN, NAN),
+        19 => line(2, NAN, ABOVE_PAN),
+        20 => line(1, MINUS_INFINITE, MINUS_INFINITE),
+        21 => line(2, ABOVE_RAIN, ABOVE_PAN),
+        22 => line(2, MINUS_ZERO, MINUS_ZERO),
+        _ => line(1, RAIN_LIMIT, PAN_LIMIT),
+    }
 }
 
 pub enum Source {

@@ -2,7 +2,7 @@
 
 use super::draft::{any, basin_of, numbers, share_range, File, Spot, RECORD};
 use super::draw::{Checksum, Draw};
-use crate::basin::{Advanced, Basin, GREATEST_REACH};
+use crate::basin::{Advanced, Basin, GREATEST_REACH, MOST_SUB_BASINS};
 use crate::forcing::{Line, Reading, MOST_LINES};
 use crate::record::*;
 use std::io::{self, Write};
@@ -96,8 +96,8 @@ const CASE_A: [u64; WORDS] = [
     0, 0, 0, 0, 0, 0, 0, 0, 0,
 ];
 
-/// REACH of a sub-basin where its own number is given second and true, and next of a reach; the
-/// own number, M and a draw.
+/// REACH of a sub-basin and next of a reach that is not the last, each by the own number, M and a
+/// draw.
 struct Shape {
     reach: fn(u64, u64, u64) -> u64,
     next: fn(u64, u64, u64) -> u64,
@@ -279,25 +279,36 @@ fn with(mut numbers: Vec<u64>, place: usize, number: u64) -> Basin {
 /// Below the range of a number, its least, its greatest, above, and the greatest u64.
 fn edges(basin: &Basin, place: usize) -> [u64; 5] {
     let (least, greatest) = range_of(basin, place);
-    let below = least.checked_sub(1).unwrap_or(u64::MAX);
+    let below = match reach_place(place) {
+        // A reach's own number stands below its next.
+        Some((own, 2)) if own <= basin.m => own,
+        _ => least.checked_sub(1).unwrap_or(u64::MAX),
+    };
     [below, least, greatest, greatest + 1, u64::MAX]
+}
+
+/// The reach that a number stands in, from 1, and its place there.
+fn reach_place(place: usize) -> Option<(u64, usize)> {
+    let from = place.checked_sub(2 + RECORD * MOST_SUB_BASINS)?;
+    Some((from as u64 / 4 + 1, from % 4))
 }
 
 /// The range of a number of a basin that is handed in.
 fn range_of(basin: &Basin, place: usize) -> (u64, u64) {
-    let Basin { n, m, subs, reaches } = basin;
-    let Some(place) = place.checked_sub(2) else { return [(1, 32), (0, 31)][place] };
-    if let Some(record) = subs.get(place / RECORD) {
-        let in_use = ((place / RECORD) as u64) < *n;
-        return if in_use { record_range(record, place % RECORD, *m) } else { (0, 0) };
+    let Basin { n, m, subs, reaches } = *basin;
+    if let Some((own, place)) = reach_place(place) {
+        return match place {
+            _ if own > m => (0, 0),
+            2 => (0, if own < m { m } else { 0 }),
+            3 => (0, GREATEST_REACH),
+            share => share_range(share, reaches[own as usize - 1].c0),
+        };
     }
-    let place = place - RECORD * subs.len();
-    let own = place as u64 / 4 + 1;
-    match place % 4 {
-        _ if own > *m => (0, 0),
-        2 => (0, if own < *m { *m } else { 0 }),
-        3 => (0, GREATEST_REACH),
-        share => share_range(share, reaches[place / 4].c0),
+    match place {
+        0 => (1, 32),
+        1 => (0, 31),
+        _ if ((place - 2) / RECORD) as u64 >= n => (0, 0),
+        _ => record_range(&subs[(place - 2) / RECORD], (place - 2) % RECORD, m),
     }
 }
 
@@ -338,10 +349,8 @@ fn limits(out: &mut impl Write) -> io::Result<()> {
 
 /// N, M, and of ten records and of ten reaches one.
 fn is_shown(place: usize) -> bool {
-    const REACHES: usize = 2 + 32 * RECORD;
-    match place {
-        0 | 1 => true,
-        2..REACHES => (place - 2) / RECORD % 10 == 2,
-        _ => (place - REACHES) / 4 % 10 == 1,
+    match reach_place(place) {
+        Some((own, _)) => own % 10 == 2,
+        None => place < 2 || (place - 2) / RECORD % 10 == 2,
     }
 }

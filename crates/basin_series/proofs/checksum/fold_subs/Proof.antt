@@ -37,16 +37,4 @@ returns : tie.Need-returns Inv-loop μ-loop
 returns c = omega arith
 
 pub fold-subs-spec : {M : Type 1} → statement M
-fold-subs-spec =
-    tie.close
-    (tie.spec
-    Inv-loop
-    μ-loop
-    loop-holds
-    mul-fold-sub
-    array-copy-out-fold-sub
-    fold-sub-requires
-    add-i
-    loop-less
-    loop-again
-    returns)
+fold-subs-spec = tie.close (tie.spec Inv-loop μ-loop loop-holds mul-fold-sub array-copy-out-fold-sub fold-sub-requires add-i loop-less loop-again returns)

@@ -31,6 +31,4 @@ returns : tie.Need-returns Inv-loop μ-loop
 returns c = omega arith
 
 pub places-spec : {M : Type 1} → statement M
-places-spec =
-    tie.close
-    (tie.spec Inv-loop μ-loop loop-holds line-requires add-place loop-less loop-again returns)
+places-spec = tie.close (tie.spec Inv-loop μ-loop loop-holds line-requires add-place loop-less loop-again returns)

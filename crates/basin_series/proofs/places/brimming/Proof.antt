@@ -31,6 +31,4 @@ returns : tie.Need-returns Inv-loop μ-loop
 returns c = omega arith
 
 pub brimming-spec : {M : Type 1} → statement M
-brimming-spec =
-    tie.close
-    (tie.spec Inv-loop μ-loop loop-holds raised-requires add-place loop-less loop-again returns)
+brimming-spec = tie.close (tie.spec Inv-loop μ-loop loop-holds raised-requires add-place loop-less loop-again returns)

@@ -34,15 +34,4 @@ returns : tie.Need-returns Inv-loop μ-loop
 returns c = omega arith
 
 pub rows-spec : {M : Type 1} → statement M
-rows-spec =
-    tie.close
-    (tie.spec
-    Inv-loop
-    μ-loop
-    loop-holds
-    row-requires
-    brimming-requires
-    add-k
-    loop-less
-    loop-again
-    returns)
+rows-spec = tie.close (tie.spec Inv-loop μ-loop loop-holds row-requires brimming-requires add-k loop-less loop-again returns)

@@ -31,6 +31,4 @@ returns : tie.Need-returns Inv-loop μ-loop
 returns c = omega arith
 
 pub run-spec : {M : Type 1} → statement M
-run-spec =
-    tie.close
-    (tie.spec Inv-loop μ-loop loop-holds turn-requires add-i loop-less loop-again returns)
+run-spec = tie.close (tie.spec Inv-loop μ-loop loop-holds turn-requires add-i loop-less loop-again returns)

@@ -34,15 +34,4 @@ returns : tie.Need-returns Inv-loop μ-loop
 returns c = omega arith
 
 pub drawn-spec : {M : Type 1} → statement M
-drawn-spec =
-    tie.close
-    (tie.spec
-    Inv-loop
-    μ-loop
-    line-requires
-    loop-holds
-    turn-requires
-    add-k
-    loop-less
-    loop-again
-    returns)
+drawn-spec = tie.close (tie.spec Inv-loop μ-loop line-requires loop-holds turn-requires add-k loop-less loop-again returns)

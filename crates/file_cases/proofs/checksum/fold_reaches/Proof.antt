@@ -37,16 +37,4 @@ returns : tie.Need-returns Inv-loop μ-loop
 returns c = omega arith
 
 pub fold-reaches-spec : {M : Type 1} → statement M
-fold-reaches-spec =
-    tie.close
-    (tie.spec
-    Inv-loop
-    μ-loop
-    loop-holds
-    mul-fold-reach
-    array-copy-out-fold-reach
-    fold-reach-requires
-    add-j
-    loop-less
-    loop-again
-    returns)
+fold-reaches-spec = tie.close (tie.spec Inv-loop μ-loop loop-holds mul-fold-reach array-copy-out-fold-reach fold-reach-requires add-j loop-less loop-again returns)

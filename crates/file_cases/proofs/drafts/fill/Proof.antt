@@ -31,6 +31,4 @@ returns : tie.Need-returns Inv-loop μ-loop
 returns c = omega arith
 
 pub fill-spec : {M : Type 1} → statement M
-fill-spec =
-    tie.close
-    (tie.spec Inv-loop μ-loop loop-holds choose-requires add-at loop-less loop-again returns)
+fill-spec = tie.close (tie.spec Inv-loop μ-loop loop-holds choose-requires add-at loop-less loop-again returns)

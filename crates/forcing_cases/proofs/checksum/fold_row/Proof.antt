@@ -37,16 +37,4 @@ returns : tie.Need-returns Inv-loop μ-loop
 returns c = omega arith
 
 pub fold-row-spec : {M : Type 1} → statement M
-fold-row-spec =
-    tie.close
-    (tie.spec
-    Inv-loop
-    μ-loop
-    loop-holds
-    mul-fold
-    element-copy-out-fold
-    fold-requires
-    add-i
-    loop-less
-    loop-again
-    returns)
+fold-row-spec = tie.close (tie.spec Inv-loop μ-loop loop-holds mul-fold element-copy-out-fold fold-requires add-i loop-less loop-again returns)

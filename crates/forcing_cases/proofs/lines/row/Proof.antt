@@ -37,16 +37,4 @@ returns : tie.Need-returns Inv-loop μ-loop
 returns c = omega arith
 
 pub row-spec : {M : Type 1} → statement M
-row-spec =
-    tie.close
-    (tie.spec
-    Inv-loop
-    μ-loop
-    loop-holds
-    mul-number
-    element-copy-out-number
-    number-requires
-    add-i
-    loop-less
-    loop-again
-    returns)
+row-spec = tie.close (tie.spec Inv-loop μ-loop loop-holds mul-number element-copy-out-number number-requires add-i loop-less loop-again returns)

@@ -34,15 +34,4 @@ returns : tie.Need-returns Inv-loop μ-loop
 returns c = omega arith
 
 pub made-spec : {M : Type 1} → statement M
-made-spec =
-    tie.close
-    (tie.spec
-    Inv-loop
-    μ-loop
-    chosen-requires
-    loop-holds
-    turn-requires
-    add-k
-    loop-less
-    loop-again
-    returns)
+made-spec = tie.close (tie.spec Inv-loop μ-loop chosen-requires loop-holds turn-requires add-k loop-less loop-again returns)

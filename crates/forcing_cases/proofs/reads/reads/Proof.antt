@@ -31,6 +31,4 @@ returns : tie.Need-returns Inv-loop μ-loop
 returns c = omega arith
 
 pub reads-spec : {M : Type 1} → statement M
-reads-spec =
-    tie.close
-    (tie.spec Inv-loop μ-loop loop-holds turn-requires add-i loop-less loop-again returns)
+reads-spec = tie.close (tie.spec Inv-loop μ-loop loop-holds turn-requires add-i loop-less loop-again returns)

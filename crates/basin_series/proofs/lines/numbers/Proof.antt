@@ -1,22 +1,16 @@
--- `basin_series::lines::basin` is safe and ends: place rises to 1,374.
+-- `basin_series::lines::numbers` is safe and ends: place rises to 1,374.
 -- Assumes nothing.
 use Prim.Native.Nat.{_≤_, _-_}
 use borrow.Author.Needs.{needs}
 use native.Mathlib.Omega.{arith}
-use Rattle.basin_series.proofs.lines.basin.Statement.{statement}
-use Rattle.basin_series.proofs.lines.basin.Tie as tie
+use Rattle.basin_series.proofs.lines.numbers.Statement.{statement}
+use Rattle.basin_series.proofs.lines.numbers.Tie as tie
 
 abbrev Inv-loop : tie.InvT-loop
 Inv-loop b place₀ place = place ≤ 1374
 
 abbrev μ-loop : tie.MeasureT-loop
 μ-loop b place₀ place = 1374 - place
-
-slice-aggregate-word : tie.Need-slice-aggregate-word Inv-loop μ-loop
-slice-aggregate-word c = omega arith
-
-word-requires : tie.Need-word-requires Inv-loop μ-loop
-word-requires c κs = search needs
 
 loop-holds : tie.Need-loop-holds Inv-loop μ-loop
 loop-holds c = omega arith
@@ -36,25 +30,8 @@ loop-less c = omega arith
 loop-again : tie.Need-loop-again Inv-loop μ-loop
 loop-again c = omega arith
 
-end-requires : tie.Need-end-requires Inv-loop μ-loop
-end-requires c κs = search needs
-
 returns : tie.Need-returns Inv-loop μ-loop
 returns c = omega arith
 
-pub basin-spec : {M : Type 1} → statement M
-basin-spec =
-    tie.close
-    (tie.spec
-    Inv-loop
-    μ-loop
-    slice-aggregate-word
-    word-requires
-    loop-holds
-    at-requires
-    number-requires
-    add-place
-    loop-less
-    loop-again
-    end-requires
-    returns)
+pub numbers-spec : {M : Type 1} → statement M
+numbers-spec = tie.close (tie.spec Inv-loop μ-loop loop-holds at-requires number-requires add-place loop-less loop-again returns)
