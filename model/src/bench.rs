@@ -10,7 +10,7 @@ use std::process::{Command, Stdio};
 use std::time::Instant;
 
 /// Runs of each program, of which the best counts.
-const RUNS: usize = 5;
+const RUNS: usize = 15;
 
 /// Daily steps, all accepted, of a basin with a reach fewer than sub-basins.
 pub fn files(years: u64, sub_basins: u64) -> Files {
@@ -47,39 +47,39 @@ fn day(n: u64, chance: &mut Chance) -> Vec<LineWords> {
     (0..n).map(|_| line(MEASURED, tenths(most), tenths(60))).collect()
 }
 
-/// Times both programs, best of several: thirty years, then how the time grows.
+/// Years and sub-basins: the mark, then how the time grows with steps and with sub-basins.
+const ROWS: [(u64, u64); 9] =
+    [(30, 32), (2, 32), (4, 32), (8, 32), (16, 32), (8, 4), (8, 8), (8, 16), (8, 32)];
+
 pub fn bench(account: &Path, out: &mut impl Write) -> io::Result<()> {
     let account = fs::canonicalize(account)?;
     let model = std::env::current_exe()?;
     let folder = std::env::temp_dir().join(format!("account-bench-{}", std::process::id()));
     writeln!(out, "years sub-basins     account       model   ratio   (best of {RUNS})")?;
-    let mut row = |years, sub_basins| -> io::Result<()> {
+    for (years, sub_basins) in ROWS {
         files(years, sub_basins).write(&folder)?;
-        let ours = best(Command::new(&account).current_dir(&folder))?;
-        let its = best(Command::new(&model).arg("run").arg(&folder))?;
+        let mut ours = Command::new(&account);
+        let mut its = Command::new(&model);
+        let [ours, its] = best([ours.current_dir(&folder), its.arg("run").arg(&folder)])?;
         let ratio = ours / its;
         writeln!(out, "{years:5} {sub_basins:11} {ours:9.3} s {its:9.3} s {ratio:7.2}")?;
-        out.flush()
-    };
-    for (years, sub_basins) in
-        [(30, 32), (2, 32), (4, 32), (8, 32), (16, 32), (8, 4), (8, 8), (8, 16), (8, 32)]
-    {
-        row(years, sub_basins)?;
+        out.flush()?;
     }
     fs::remove_dir_all(&folder)
 }
 
-/// The best time of several runs, in seconds.
-fn best(command: &mut Command) -> io::Result<f64> {
-    command.stdin(Stdio::null()).stdout(Stdio::null());
-    let mut best = f64::INFINITY;
+/// The best time of each, in seconds. They take turns, so that both meet the machine alike.
+fn best(mut programs: [&mut Command; 2]) -> io::Result<[f64; 2]> {
+    let mut best = [f64::INFINITY; 2];
     for _ in 0..RUNS {
-        let start = Instant::now();
-        let status = command.status()?;
-        if !status.success() {
-            return Err(io::Error::other(format!("a run ended with {status}")));
+        for (program, best) in programs.iter_mut().zip(&mut best) {
+            let start = Instant::now();
+            let status = program.stdin(Stdio::null()).stdout(Stdio::null()).status()?;
+            if !status.success() {
+                return Err(io::Error::other(format!("a run ended with {status}")));
+            }
+            *best = best.min(start.elapsed().as_secs_f64());
         }
-        best = best.min(start.elapsed().as_secs_f64());
     }
     Ok(best)
 }

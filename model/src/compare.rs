@@ -79,6 +79,7 @@ impl Tally {
 
     fn print(&self, out: &mut impl Write) -> io::Result<()> {
         let Tally { cases, loads_refused, accepted, refused, short } = self;
-        writeln!(out, "{cases} cases agree: {loads_refused} loads refused, {accepted} steps accepted, {refused} refused, {short} short")
+        write!(out, "{cases} cases agree: {loads_refused} loads refused, ")?;
+        writeln!(out, "{accepted} steps accepted, {refused} refused, {short} short")
     }
 }
