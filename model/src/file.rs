@@ -4,7 +4,7 @@ use crate::basin::{reach_word_inside, Basin, Reach, MOST_REACHES, MOST_SUB_BASIN
 use crate::record::{range, Record, WORDS};
 
 /// Greatest VI and VG that a file may start with, µm.
-const GREATEST_START: u64 = 1_000_000;
+pub const GREATEST_START: u64 = 1_000_000;
 
 /// A load's answer. Refused: 1 to 4, its place and the empty basin.
 #[derive(Clone, Copy, Debug, PartialEq, Eq)]

@@ -114,6 +114,7 @@ fn step_subs(subs: [SubBasin; 32], rain: [u64; 32], pan: [u64; 32], n: u64, m: u
     while i < n {
         let at = i as usize;
         let s = after[at];
+        // For the proof alone: the line has 15 places.
         let line = s.line;
         let places = line.places();
         let depth = rain[at];

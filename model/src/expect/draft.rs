@@ -2,11 +2,8 @@
 
 use super::draw::Draw;
 use crate::basin::{Basin, Reach};
-use crate::file::{load, word, Loaded};
+use crate::file::{load, word, Loaded, GREATEST_START};
 use crate::record::{range, Record, WAITING, WORDS};
-
-/// Greatest VI and VG of a file, µm.
-const GREATEST_START: u64 = 1_000_000;
 
 /// The longest file has a word less.
 const BUFFER: usize = 4 * 832;

@@ -1,6 +1,8 @@
 //! `subbasin_series`: the sub-basin call in long series.
 
+use super::draft;
 use super::draw::{Checksum, Draw};
+use crate::file::GREATEST_START;
 use crate::record::*;
 use crate::subbasin::{step, Stepped, GREATEST_PAN, GREATEST_RAIN};
 use std::io::{self, Write};
@@ -12,8 +14,6 @@ const STARTS: Range<usize> = 17..WORDS;
 const CHANNEL: usize = 38;
 const RAIN: usize = 39;
 const PAN: usize = 40;
-/// The greatest VI and VG of a basin file, µm.
-const GREATEST_START: u64 = 1_000_000;
 
 /// A call as one number a place.
 #[derive(Clone, Copy)]
@@ -330,13 +330,6 @@ fn corner(least: u64, greatest: u64, x: u64, _: u64) -> u64 {
     [least, greatest][(x % 2) as usize]
 }
 
-/// Least, greatest, a small number or any.
 fn any(least: u64, greatest: u64, x: u64, y: u64) -> u64 {
-    let number = match x % 8 {
-        0 => least,
-        1 => greatest,
-        2 => y % 20,
-        _ => y % (greatest + 1),
-    };
-    number.clamp(least, greatest)
+    draft::any((least, greatest), x, y)
 }

@@ -1,8 +1,9 @@
 //! Damage to a case's files, or no damage.
 
-use super::words::{Counts, GREATEST_START};
+use super::words::Counts;
 use super::Put;
 use crate::chance::Chance;
+use crate::file::GREATEST_START;
 use crate::files::bytes;
 use crate::record::{range, WORDS};
 

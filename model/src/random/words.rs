@@ -3,10 +3,8 @@
 use crate::basin::{MOST_REACHES, MOST_SUB_BASINS};
 use crate::chance::Chance;
 use crate::curve::WHOLE;
+use crate::file::GREATEST_START;
 use crate::record::{range, WORDS};
-
-/// The greatest VI and VG of a basin file, µm.
-pub const GREATEST_START: u64 = 1_000_000;
 
 /// N and M.
 pub struct Counts {
