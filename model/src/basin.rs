@@ -3,7 +3,7 @@
 use crate::curve::WHOLE;
 use crate::forcing::{judge, Depths, Line, MOST_LINES};
 use crate::record::Record;
-use crate::store::{whole_number, Store};
+use crate::store::Store;
 use crate::subbasin;
 
 pub const MOST_SUB_BASINS: usize = 32;
@@ -73,16 +73,15 @@ pub struct Advanced {
 }
 
 impl Basin {
-    /// The basin's water, m³.
+    /// The basin's water, m³. That of a basin inside its limits is below 2^63.
     pub fn content(&self) -> u64 {
         let sub = |s: &Record| {
             let depth = s.wu + s.wl + s.wd + s.g + s.vi + s.vg;
-            let waiting: u128 = s.waiting.iter().map(|&amount| u128::from(amount)).sum();
-            u128::from(s.area) * u128::from(depth) + waiting + u128::from(s.channel)
+            s.area * depth + s.waiting.iter().sum::<u64>() + s.channel
         };
-        let subs: u128 = self.subs.iter().map(sub).sum();
-        let reaches: u128 = self.reaches.iter().map(|reach| u128::from(reach.content)).sum();
-        whole_number(subs + reaches)
+        let subs: u64 = self.subs[..self.n as usize].iter().map(sub).sum();
+        let reaches: u64 = self.reaches[..self.m as usize].iter().map(|reach| reach.content).sum();
+        subs + reaches
     }
 
     /// Whether nothing of the basin is what refusal 9 names.
@@ -106,7 +105,14 @@ impl Basin {
 
     /// The step call.
     pub fn step(mut self, lines: &[Line; MOST_LINES], count: u64) -> Advanced {
-        match self.advance(lines, count) {
+        let result = if !self.inside() {
+            Err((9, 0))
+        } else if count != self.n {
+            Err((5, 0))
+        } else {
+            self.advance(lines.iter().copied())
+        };
+        match result {
             Err((number, place)) => {
                 Advanced { number, place, basin: self, report: Report::default() }
             }
@@ -114,39 +120,28 @@ impl Basin {
         }
     }
 
-    /// The step in place: its report, or the refusal's number and place.
-    pub fn advance(
-        &mut self,
-        lines: &[Line; MOST_LINES],
-        count: u64,
-    ) -> Result<Report, (u64, u64)> {
-        let depths = self.depths(lines, count)?;
-        Ok(self.step_of(&depths))
-    }
-
-    /// The lines 1..N as depths, or the refusal's number and place.
-    fn depths(&self, lines: &[Line; MOST_LINES], count: u64) -> Result<Vec<Depths>, (u64, u64)> {
-        if !self.inside() {
-            return Err((9, 0));
+    /// The step in place, of a basin inside its limits and with a line for every sub-basin: its
+    /// report, or the number and place of the first bad line. A loaded basin stays inside, as no
+    /// store comes to hold more than 65,536 times its greatest inflow.
+    pub fn advance(&mut self, lines: impl Iterator<Item = Line>) -> Result<Report, (u64, u64)> {
+        let mut depths = [Depths::default(); MOST_LINES];
+        let depths = &mut depths[..self.n as usize];
+        for (place, (line, depths)) in (1..).zip(lines.zip(depths.iter_mut())) {
+            *depths = judge(&line).map_err(|number| (number, place))?;
         }
-        if count != self.n {
-            return Err((5, 0));
-        }
-        let numbered = (1..=self.n).zip(lines);
-        numbered.map(|(place, line)| judge(line).map_err(|number| (number, place))).collect()
+        Ok(self.step_of(depths))
     }
 
     /// An accepted step.
     fn step_of(&mut self, depths: &[Depths]) -> Report {
-        let mut rain = 0u128;
-        let mut evapotranspiration = 0u128;
+        let mut rain = 0;
+        let mut evapotranspiration = 0;
         // What is sent to the outlet, 0, and to the reaches, 1..M.
         let mut sent = [0u64; MOST_REACHES + 1];
         for (record, line) in self.subs.iter_mut().zip(depths) {
             let flows = subbasin::advance(record, line.rain, line.pan);
-            let area = u128::from(record.area);
-            rain += area * u128::from(line.rain);
-            evapotranspiration += area * u128::from(flows.eu + flows.el + flows.ed);
+            rain += record.area * line.rain;
+            evapotranspiration += record.area * (flows.eu + flows.el + flows.ed);
             sent[record.reach as usize] += flows.q;
         }
         for own in 1..=self.m as usize {
@@ -157,8 +152,8 @@ impl Basin {
             sent[reach.next as usize] += outflow;
         }
         Report {
-            rain: whole_number(rain),
-            evapotranspiration: whole_number(evapotranspiration),
+            rain,
+            evapotranspiration,
             outlet: sent[0],
             content: self.content(),
             estimated: depths.iter().filter(|line| line.estimated).count() as u64,
@@ -170,7 +165,7 @@ impl Basin {
 mod tests {
     use super::*;
     use crate::forcing::Reading;
-    use crate::record::CASE_A;
+    use crate::record::{CASE_A, GREATEST_WAITING_DEPTH};
 
     const NOTHING: Line = Line { rain: Reading::Missing, pan: 0.0 };
 
@@ -210,6 +205,20 @@ mod tests {
             assert_eq!(before + report.rain, out);
             basin = given.basin;
         }
+    }
+
+    /// The slowest stores under the most rain, until they hardly fill any further.
+    #[test]
+    fn the_fullest_basin_stays_inside() {
+        let full = Record { area: 5_000, sm: 100_000, ki: WHOLE, kg: 0, l: 15, ..case_a().subs[0] };
+        let mut basin = Basin { n: 1, m: 1, ..Basin::default() };
+        basin.subs[0] = Record { ci: 65_535, cg: 65_535, cs: 65_535, reach: 1, ..full };
+        basin.reaches[0] = Reach { c0: 0, c1: 1, next: 0, content: 0 };
+        for _ in 0..300_000 {
+            basin.advance(with(Reading::Measured(1_000.0), 0.0).into_iter()).unwrap();
+        }
+        assert!(basin.inside());
+        assert!(basin.subs[0].vi > GREATEST_WAITING_DEPTH / 4 * 3);
     }
 
     #[test]

@@ -47,28 +47,32 @@ fn day(n: u64, chance: &mut Chance) -> Vec<LineWords> {
     (0..n).map(|_| line(MEASURED, tenths(most), tenths(60))).collect()
 }
 
-/// Years and sub-basins: the mark, then how the time grows with steps and with sub-basins.
-const ROWS: [(u64, u64); 9] =
-    [(30, 32), (2, 32), (4, 32), (8, 32), (16, 32), (8, 4), (8, 8), (8, 16), (8, 32)];
+/// Years and sub-basins: the two marks, then how the time grows with steps and with sub-basins.
+#[rustfmt::skip]
+const ROWS: [(u64, u64); 10] = [
+    (30, 32), (30, 5),
+    (2, 32), (4, 32), (8, 32), (16, 32),
+    (8, 4), (8, 8), (8, 16), (8, 32),
+];
 
 pub fn bench(account: &Path, out: &mut impl Write) -> io::Result<()> {
     let account = fs::canonicalize(account)?;
     let model = std::env::current_exe()?;
     let folder = std::env::temp_dir().join(format!("account-bench-{}", std::process::id()));
-    writeln!(out, "years sub-basins     account       model   ratio   (best of {RUNS})")?;
+    writeln!(out, "years sub-basins     account        model   ratio   (best of {RUNS})")?;
     for (years, sub_basins) in ROWS {
         files(years, sub_basins).write(&folder)?;
         let mut ours = Command::new(&account);
         let mut its = Command::new(&model);
         let [ours, its] = best([ours.current_dir(&folder), its.arg("run").arg(&folder)])?;
         let ratio = ours / its;
-        writeln!(out, "{years:5} {sub_basins:11} {ours:9.3} s {its:9.3} s {ratio:7.2}")?;
+        writeln!(out, "{years:5} {sub_basins:11} {ours:9.1} ms {its:9.1} ms {ratio:7.2}")?;
         out.flush()?;
     }
     fs::remove_dir_all(&folder)
 }
 
-/// The best time of each, in seconds. They take turns, so that both meet the machine alike.
+/// The best time of each, in milliseconds. They take turns, so that both meet the machine alike.
 fn best(mut programs: [&mut Command; 2]) -> io::Result<[f64; 2]> {
     let mut best = [f64::INFINITY; 2];
     for _ in 0..RUNS {
@@ -78,7 +82,7 @@ fn best(mut programs: [&mut Command; 2]) -> io::Result<[f64; 2]> {
             if !status.success() {
                 return Err(io::Error::other(format!("a run ended with {status}")));
             }
-            *best = best.min(start.elapsed().as_secs_f64());
+            *best = best.min(1_000.0 * start.elapsed().as_secs_f64());
         }
     }
     Ok(best)
@@ -91,7 +95,7 @@ mod tests {
 
     #[test]
     fn every_step_is_accepted() {
-        for sub_basins in [1, 4, 32] {
+        for sub_basins in [1, 4, 5, 32] {
             let files = files(1, sub_basins);
             let mut out = Vec::new();
             run(&files.basin, &files.forcing[..], &mut out).unwrap();

@@ -65,26 +65,28 @@ fn capacities(c: u64, m: u64) -> bool {
 /// square is at most 2^32, so a root below a whole number is so by more than the machine rounds.
 #[inline]
 pub fn root_of(t: u64) -> u64 {
-    ((t * WHOLE) as f64).sqrt() as u64
+    // The machine turns signed numbers into floating point by one command, others by many.
+    let square = (t * WHOLE) as i64 as f64;
+    u64::from(square.sqrt() as u32)
 }
 
-/// Power(t, e). The roots are taken only as far as e mod 16 still has bits.
+/// Power(t, e). The first factor makes 65,536 to t; the roots are taken only as far as e mod 16
+/// still has bits.
 #[inline]
 pub fn power_of(t: u64, e: u64) -> u64 {
-    let mut p = WHOLE;
-    for _ in 0..e / 16 {
+    let mut p = t;
+    for _ in 1..e / 16 {
         p = p * t / WHOLE;
     }
     let mut r = t;
-    let mut bit = 8;
-    let mut left = e % 16;
-    while left > 0 {
-        r = root_of(r);
-        if left >= bit {
-            p = p * r / WHOLE;
-            left -= bit;
+    for bit in [8, 4, 2, 1] {
+        if e % (2 * bit) == 0 {
+            break;
         }
-        bit /= 2;
+        r = root_of(r);
+        if e & bit > 0 {
+            p = p * r / WHOLE;
+        }
     }
     p
 }
@@ -98,46 +100,57 @@ pub fn held_of(c: u64, m: u64, e: u64, a: u64) -> u64 {
 /// Ordinate(w), µm, with the curve turned round. With s = (m − a) × 65,536 / m,
 /// Held(a) ≤ w says c × Power(s, e) / 65,536 ≥ c − w, so Power(s, e) ≥ need, so s is at least
 /// the least such share; and s ≥ least says (m − a) × 65,536 ≥ least × m.
+#[inline(always)]
 pub fn ordinate_of(c: u64, m: u64, e: u64, w: u64) -> u64 {
     let need = ((c - w) * WHOLE).div_ceil(c);
     let least = least_share(need, e);
     m - (least * m).div_ceil(WHOLE)
 }
 
-/// The least t with Power(t, e) ≥ need, for need 0..65,536. Power rounds down, so it lies at or
-/// a little above need's own root of order e / 16: the search widens upwards from there.
+/// The least t with Power(t, e) ≥ need, for need 0..65,536. A guess leads; as Power never falls,
+/// t is exact where Power(t − 1, e) < need ≤ Power(t, e), and mostly it is so at once.
+#[inline(always)]
 fn least_share(need: u64, e: u64) -> u64 {
     if need == 0 {
         return 0;
     }
-    let whole = WHOLE as f64;
-    let guess = (whole * (need as f64 / whole).powf(16.0 / e as f64)) as u64;
-    // Power(low) < need ≤ Power(high) is what the bisection starts from; Power(0) is 0.
-    let mut low = guess.saturating_sub(1);
-    while power_of(low, e) >= need {
-        low /= 2;
+    let mut t = guessed_share(need, e);
+    while power_of(t, e) < need {
+        t += 1;
     }
-    let mut stride = 1;
-    let mut high = (low + stride).min(WHOLE);
-    while power_of(high, e) < need {
-        low = high;
-        stride *= 2;
-        high = (low + stride).min(WHOLE);
+    while power_of(t - 1, e) >= need {
+        t -= 1;
     }
-    while high - low > 1 {
-        let middle = (low + high) / 2;
-        if power_of(middle, e) < need {
-            low = middle;
-        } else {
-            high = middle;
-        }
-    }
-    high
+    t
 }
+
+/// A share, 1..65,536, near the least t with Power(t, e) ≥ need: by log2 and exp2 the unrounded one,
+/// 65,536 × (need / 65,536)^(16 / e), then what rounding adds, and the next whole number.
+#[inline]
+fn guessed_share(need: u64, e: u64) -> u64 {
+    let (turned, raised) = LEADS[e as usize];
+    let unrounded = ((need as i64 as f32).log2() * turned + 16.0 * (1.0 - turned)).exp2();
+    u64::from((unrounded + raised + 1.0) as u32).clamp(1, WHOLE)
+}
+
+/// What leads to a guess, by exponent: 16 / e, and how far the least share lies above the unrounded
+/// one on the mean, since Power rounds down at every factor and root. The second is measured.
+const LEADS: [(f32, f32); 49] = {
+    let mut leads = [(0.0, 0.0); 49];
+    let mut e = 16u32;
+    while e <= 48 {
+        let turned = 16.0 / e as f32;
+        let [factors, roots] = [e / 16, (e % 16).count_ones()];
+        leads[e as usize] = (turned, turned * (0.8 * factors as f32 + 1.3 * roots as f32 - 1.8));
+        e += 1;
+    }
+    leads
+};
 
 #[cfg(test)]
 mod tests {
     use super::*;
+    use crate::chance::Chance;
 
     #[test]
     fn power_cases() {
@@ -169,11 +182,11 @@ mod tests {
         }
     }
 
-    /// Power as the text has it, with every root taken.
+    /// Power as the text has it, with every root taken, in whole numbers alone.
     fn power_by_text(t: u64, e: u64) -> u64 {
         let mut roots = [t; 5];
         for i in 1..=4 {
-            roots[i] = root_of(roots[i - 1]);
+            roots[i] = (roots[i - 1] * WHOLE).isqrt();
         }
         let mut p = WHOLE;
         for _ in 0..e / 16 {
@@ -200,9 +213,52 @@ mod tests {
         }
     }
 
+    /// Every need of every exponent; the guess is near it.
+    #[test]
+    fn a_share_is_the_least() {
+        for e in LEAST_E..=GREATEST_E {
+            let mut least = 0;
+            let mut strayed = 0;
+            for need in 0..=WHOLE {
+                while power_by_text(least, e) < need {
+                    least += 1;
+                }
+                assert_eq!(least_share(need, e), least, "need {need} e {e}");
+                strayed += guessed_share(need.max(1), e).abs_diff(least);
+            }
+            assert!(strayed < WHOLE, "e {e}: {strayed}");
+        }
+    }
+
+    fn held_by_text(c: u64, m: u64, e: u64, a: u64) -> u64 {
+        c - c * power_by_text((m - a) * WHOLE / m, e) / WHOLE
+    }
+
     /// Ordinate as the text has it: the greatest a of all 0..m with Held(a) ≤ w.
     fn ordinate_by_text(c: u64, m: u64, e: u64, w: u64) -> u64 {
-        (0..=m).filter(|&a| held_of(c, m, e, a) <= w).max().unwrap()
+        (0..=m).filter(|&a| held_by_text(c, m, e, a) <= w).max().unwrap()
+    }
+
+    /// The same by halving, since Held never falls: Held(low) ≤ w, and w < Held(high) or high > m.
+    fn ordinate_by_halving(c: u64, m: u64, e: u64, w: u64) -> u64 {
+        let (mut low, mut high) = (0, m + 1);
+        while high - low > 1 {
+            let middle = (low + high) / 2;
+            if held_by_text(c, m, e, middle) <= w {
+                low = middle;
+            } else {
+                high = middle;
+            }
+        }
+        low
+    }
+
+    /// The ordinates at w of both ends, beside them and between.
+    fn hold_ordinates(c: u64, m: u64, e: u64, expected: fn(u64, u64, u64, u64) -> u64) {
+        for w in [0, 1, c / 3, c / 2, c - c / 100, c - 1, c] {
+            let given = ordinate_of(c, m, e, w);
+            assert_eq!(given, expected(c, m, e, w), "c {c} m {m} e {e} w {w}");
+        }
     }
 
     #[test]
@@ -210,18 +266,35 @@ mod tests {
         for c in [1, 2, 7, 100, 65_535, 65_536, 65_537, 500_000] {
             for m in [1, 2, 7, 100, 1_000, 70_000] {
                 for e in [16, 17, 24, 31, 32, 40, 48] {
-                    for w in [0, 1, c / 3, c / 2, c - 1, c] {
-                        if w <= c {
-                            let expected = ordinate_by_text(c, m, e, w);
-                            assert_eq!(
-                                ordinate_of(c, m, e, w),
-                                expected,
-                                "c {c} m {m} e {e} w {w}"
-                            );
-                        }
-                    }
+                    hold_ordinates(c, m, e, ordinate_by_text);
                 }
             }
+        }
+    }
+
+    #[test]
+    fn ordinates_at_the_ends_of_the_ranges() {
+        for c in [1, 2, 3, 65_535, 65_536, 65_537, 499_999, GREATEST_C] {
+            for m in [1, 2, 3, 65_535, 65_536, 65_537, 1_999_999, GREATEST_M] {
+                for e in LEAST_E..=GREATEST_E {
+                    hold_ordinates(c, m, e, ordinate_by_halving);
+                }
+            }
+        }
+    }
+
+    #[test]
+    fn ordinates_anywhere() {
+        let mut chance = Chance::new(11);
+        for _ in 0..100_000 {
+            let greatest_c = chance.of(&[20, 5_000, 70_000, GREATEST_C]);
+            let greatest_m = chance.of(&[20, 5_000, 70_000, GREATEST_M]);
+            let c = chance.within(1, greatest_c);
+            let m = chance.within(1, greatest_m);
+            let e = chance.within(LEAST_E, GREATEST_E);
+            let w = chance.within(0, c);
+            let expected = ordinate_by_halving(c, m, e, w);
+            assert_eq!(ordinate_of(c, m, e, w), expected, "c {c} m {m} e {e} w {w}");
         }
     }
 

@@ -1,7 +1,5 @@
 //! The forcing list: readings, their depths in µm, and the limits of a step's lines.
 
-use crate::store::whole_number;
-
 /// The most lines that a step takes.
 pub const MOST_LINES: usize = 32;
 
@@ -29,10 +27,10 @@ pub enum Kind {
 
 impl Kind {
     /// The limit in millimetres.
-    fn limit(self) -> u128 {
+    fn limit(self) -> f32 {
         match self {
-            Kind::Rain => 1_000,
-            Kind::Pan => 100,
+            Kind::Rain => 1_000.0,
+            Kind::Pan => 100.0,
         }
     }
 }
@@ -52,36 +50,19 @@ pub fn depth(millimetres: f32, kind: Kind) -> Depth {
     }
 }
 
-/// The depth, or 7 or 8. The number's exact value is digits / 2^down.
+/// The depth, or 7 or 8. In double precision 1,000 times a single is exact, having 34 bits at
+/// most; so is its sum with a half, but for numbers so small that the sum stays below 1 anyhow.
+#[inline]
 fn micrometres(millimetres: f32, kind: Kind) -> Result<u64, u64> {
-    let bits = millimetres.to_bits();
-    let negative = bits >> 31 == 1;
-    let exponent = bits >> 23 & 0xff;
-    let fraction = u128::from(bits & 0x7f_ffff);
-    if exponent == 0xff {
-        return Err(7);
+    if millimetres >= 0.0 && millimetres <= kind.limit() {
+        return Ok(u64::from((1_000.0 * f64::from(millimetres) + 0.5) as u32));
     }
-    if negative && (exponent > 0 || fraction > 0) {
-        return Err(7);
-    }
-    if exponent >= 150 {
-        // A whole number of at least 2^23.
-        return Err(8);
-    }
-    let (digits, down) = match exponent {
-        0 => (fraction, 149),
-        _ => (fraction | 1 << 23, 150 - exponent),
-    };
-    // 1,000 × digits is below 2^34, so at 2^100 and beyond the depth is 0 alike.
-    let one = 1u128 << down.min(100);
-    if digits > kind.limit() * one {
-        return Err(8);
-    }
-    Ok(whole_number((2_000 * digits + one) / (2 * one)))
+    let above = millimetres > 0.0 && millimetres.is_finite();
+    Err(if above { 8 } else { 7 })
 }
 
 /// A step's line as depths in µm.
-#[derive(Clone, Copy, Debug, PartialEq, Eq)]
+#[derive(Clone, Copy, Debug, Default, PartialEq, Eq)]
 pub struct Depths {
     pub rain: u64,
     pub pan: u64,
@@ -89,6 +70,7 @@ pub struct Depths {
 }
 
 /// The line's depths, or its first fault: 6, 7 or 8, rain before pan.
+#[inline]
 pub fn judge(line: &Line) -> Result<Depths, u64> {
     let (rain, estimated) = match line.rain {
         Reading::Measured(rain) => (rain, false),
@@ -119,6 +101,47 @@ mod tests {
         assert_eq!(rain(1_000.0), (0, 1_000_000));
         assert_eq!(rain(f32::from_bits(1)), (0, 0));
         assert_eq!(depth(100.0, Kind::Pan), Depth { number: 0, place: 0, depth: 100_000 });
+    }
+
+    /// The depth as the text has it: sign, exponent and fraction from the bits. The number's exact
+    /// value is digits / 2^down.
+    fn depth_by_text(bits: u32, limit: u128) -> (u64, u64) {
+        let negative = bits >> 31 == 1;
+        let exponent = bits >> 23 & 0xff;
+        let fraction = u128::from(bits & 0x7f_ffff);
+        if exponent == 0xff || negative && (exponent > 0 || fraction > 0) {
+            return (7, 0);
+        }
+        if exponent >= 150 {
+            // A whole number of at least 2^23.
+            return (8, 0);
+        }
+        let (digits, down) = match exponent {
+            0 => (fraction, 149),
+            _ => (fraction | 1 << 23, 150 - exponent),
+        };
+        // 2,000 × digits is below 2^35, so at 2^100 and beyond the depth is 0 alike.
+        let one = 1u128 << down.min(100);
+        if digits > limit * one {
+            return (8, 0);
+        }
+        (0, ((2_000 * digits + one) / (2 * one)) as u64)
+    }
+
+    #[test]
+    fn depths_are_the_texts() {
+        let halves = (0..=1_000_000).map(|k| ((f64::from(k) + 0.5) / 1_000.0) as f32);
+        let beside = |bits: u32| [bits.wrapping_sub(1), bits, bits.wrapping_add(1)];
+        let near_halves = halves.flat_map(|half| beside(half.to_bits()));
+        let spread = (0..1u32 << 20).map(|k| k.wrapping_mul(4_099));
+        let near_exponents = (0..512u32).flat_map(|k| beside(k << 23));
+        for bits in near_halves.chain(spread).chain(near_exponents) {
+            for (kind, limit) in [(Kind::Rain, 1_000), (Kind::Pan, 100)] {
+                let given = depth(f32::from_bits(bits), kind);
+                let expected = depth_by_text(bits, limit);
+                assert_eq!((given.number, given.depth), expected, "bits {bits:#x}");
+            }
+        }
     }
 
     #[test]

@@ -1,16 +1,22 @@
 //! What the program prints.
 
+use crate::basin::Report;
 use crate::file::{load, word};
-use crate::forcing::{Line, Reading, MOST_LINES};
+use crate::forcing::{Line, Reading};
 use std::fs::{self, File};
-use std::io::{self, BufReader, Read, Write};
+use std::io::{self, Read, Write};
 use std::path::Path;
+
+/// Bytes of a forcing line.
+const LINE: usize = 12;
+/// Steps that are read and printed at a time.
+const STEPS: usize = 64;
 
 /// Runs on a folder's basin.bin and forcing.bin; one that can't be opened counts as empty.
 pub fn run_folder(folder: &Path, out: &mut impl Write) -> io::Result<()> {
     let basin = fs::read(folder.join("basin.bin")).unwrap_or_default();
     match File::open(folder.join("forcing.bin")) {
-        Ok(forcing) => run(&basin, BufReader::with_capacity(1 << 16, forcing), out),
+        Ok(forcing) => run(&basin, forcing, out),
         Err(_) => run(&basin, io::empty(), out),
     }
 }
@@ -22,22 +28,29 @@ pub fn run(basin: &[u8], mut forcing: impl Read, out: &mut impl Write) -> io::Re
         return writeln!(out, "load {} {}", loaded.number, loaded.place);
     }
     let mut basin = loaded.basin;
-    let mut bytes = vec![0; 12 * basin.n as usize];
-    for number in 1u64.. {
+    let size = LINE * basin.n as usize;
+    let mut bytes = vec![0; STEPS * size];
+    let mut text = Vec::new();
+    let mut number = 0;
+    loop {
         let got = read_full(&mut forcing, &mut bytes);
-        if got < bytes.len() {
-            return if got > 0 { writeln!(out, "short {got}") } else { Ok(()) };
-        }
-        match basin.advance(&lines(&bytes), basin.n) {
-            Err((refusal, place)) => writeln!(out, "{number} refused {refusal} {place}")?,
-            Ok(r) => {
-                let [rain, et, outlet, content] =
-                    [r.rain, r.evapotranspiration, r.outlet, r.content];
-                writeln!(out, "{number} ok {rain} {et} {outlet} {content} {}", r.estimated)?;
+        let (steps, tail) = bytes[..got].split_at(got - got % size);
+        for step in steps.chunks_exact(size) {
+            number += 1;
+            match basin.advance(step.as_chunks().0.iter().map(line)) {
+                Err((refusal, place)) => writeln!(text, "{number} refused {refusal} {place}")?,
+                Ok(report) => put_report(number, &report, &mut text),
             }
         }
+        if !tail.is_empty() {
+            writeln!(text, "short {}", tail.len())?;
+        }
+        out.write_all(&text)?;
+        text.clear();
+        if got < bytes.len() {
+            return Ok(());
+        }
     }
-    Ok(())
 }
 
 /// Reads until the buffer is full or the input ends or fails; gives the count of bytes.
@@ -52,19 +65,39 @@ fn read_full(input: &mut impl Read, buffer: &mut [u8]) -> usize {
     got
 }
 
-/// A step's lines: kind, rain bits, pan bits.
-fn lines(bytes: &[u8]) -> [Line; MOST_LINES] {
-    let mut lines = [Line { rain: Reading::Missing, pan: 0.0 }; MOST_LINES];
-    for (at, line) in lines.iter_mut().take(bytes.len() / 12).enumerate() {
-        let number = |place| f32::from_bits(word(bytes, 3 * at + place) as u32);
-        line.rain = match word(bytes, 3 * at) {
-            1 => Reading::Measured(number(1)),
-            2 => Reading::Estimated(number(1)),
-            _ => Reading::Missing,
-        };
-        line.pan = number(2);
+/// A line: kind, rain bits, pan bits.
+fn line(bytes: &[u8; LINE]) -> Line {
+    let number = |place| f32::from_bits(word(bytes, place) as u32);
+    let rain = match word(bytes, 0) {
+        1 => Reading::Measured(number(1)),
+        2 => Reading::Estimated(number(1)),
+        _ => Reading::Missing,
+    };
+    Line { rain, pan: number(2) }
+}
+
+/// The text of an accepted step.
+fn put_report(number: u64, r: &Report, text: &mut Vec<u8>) {
+    put_number(number, text);
+    text.extend(b" ok");
+    for amount in [r.rain, r.evapotranspiration, r.outlet, r.content, r.estimated] {
+        text.push(b' ');
+        put_number(amount, text);
     }
-    lines
+    text.push(b'\n');
+}
+
+/// A number's digits. `write!` would take longer than a sub-basin's step does.
+fn put_number(number: u64, text: &mut Vec<u8>) {
+    let mut digits = [0; 20];
+    let mut first = digits.len();
+    let mut left = number;
+    while left > 0 || first == digits.len() {
+        first -= 1;
+        digits[first] = b'0' + (left % 10) as u8;
+        left /= 10;
+    }
+    text.extend_from_slice(&digits[first..]);
 }
 
 #[cfg(test)]
@@ -83,6 +116,45 @@ mod tests {
         let files = case_a();
         let expected = "1 ok 135000 0 26666 108334 0\n2 refused 6 1\n3 ok 0 10000 1110 97224 0\n";
         assert_eq!(printed(&files.basin, &files.forcing), expected);
+    }
+
+    /// Hands out its bytes a few at a time.
+    struct Trickle<'a>(&'a [u8]);
+
+    impl Read for Trickle<'_> {
+        fn read(&mut self, buffer: &mut [u8]) -> io::Result<usize> {
+            let few = buffer.len().min(7);
+            self.0.read(&mut buffer[..few])
+        }
+    }
+
+    #[test]
+    fn more_steps_than_are_read_at_a_time() {
+        let basin = case_a().basin;
+        for count in [STEPS - 1, STEPS, STEPS + 1, 3 * STEPS] {
+            for tail in [0, 5] {
+                let mut steps = bytes((0..count).flat_map(|_| line(ESTIMATED, 1.0, 0.0)));
+                steps.resize(steps.len() + tail, 1);
+                let printed = printed(&basin, &steps);
+                let lines: Vec<&str> = printed.lines().collect();
+                assert_eq!(lines.len(), count + usize::from(tail > 0));
+                assert!(lines[count - 1].starts_with(&format!("{count} ok 1000 0 ")));
+                assert!(tail == 0 || lines[count] == "short 5");
+                let mut trickled = Vec::new();
+                run(&basin, Trickle(&steps), &mut trickled).unwrap();
+                assert_eq!(trickled, printed.as_bytes());
+            }
+        }
+    }
+
+    #[test]
+    fn digits() {
+        let tens = (0..20).map(|zeros| 10u64.pow(zeros));
+        for number in tens.flat_map(|ten| [ten - 1, ten, ten + 1]).chain([u64::MAX]) {
+            let mut text = Vec::new();
+            put_number(number, &mut text);
+            assert_eq!(text, number.to_string().as_bytes());
+        }
     }
 
     #[test]

@@ -36,18 +36,14 @@ impl Store {
         Released { number: 0, place: 0, store, outflow }
     }
 
-    /// O = (a × I + g × V) / 65,536, and V becomes V + I − O.
+    /// O = (a × I + g × V) / 65,536, and V becomes V + I − O. O is at most I + V.
+    #[inline]
     pub fn pass(self, inflow: u64) -> (Store, u64) {
-        let i = u128::from(inflow);
-        let v = u128::from(self.content);
-        let o = (u128::from(self.a) * i + u128::from(self.g) * v) / u128::from(WHOLE);
-        (Store { content: whole_number(v + i - o), ..self }, whole_number(o))
+        let part = |share: u64, amount: u64| u128::from(share) * u128::from(amount);
+        let sum = part(self.a, inflow) + part(self.g, self.content);
+        let outflow = (sum / u128::from(WHOLE)) as u64;
+        (Store { content: self.content + inflow - outflow, ..self }, outflow)
     }
-}
-
-/// A u128 that fits 64 bits.
-pub fn whole_number(x: u128) -> u64 {
-    u64::try_from(x).expect("fits 64 bits")
 }
 
 #[cfg(test)]

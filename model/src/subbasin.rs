@@ -1,4 +1,4 @@
-//! One sub-basin, one step.
+//! One sub-basin, one step. Its parts are inlined, so that the flows of a step stay in registers.
 
 use crate::curve::{held_of, ordinate_of, WHOLE};
 use crate::record::{Record, WAITING};
@@ -41,6 +41,7 @@ pub fn step(mut record: Record, rain: u64, pan: u64) -> Stepped {
 }
 
 /// The step of a record inside its limits, in place.
+#[inline(always)]
 pub fn advance(s: &mut Record, rain: u64, pan: u64) -> Flows {
     let mut f = Flows::default();
     let ep = s.k * pan / WHOLE;
@@ -54,6 +55,7 @@ pub fn advance(s: &mut Record, rain: u64, pan: u64) -> Flows {
 }
 
 /// Evapotranspiration by layer; gives PE.
+#[inline(always)]
 fn evaporate(s: &mut Record, f: &mut Flows, p: u64, ep: u64) -> u64 {
     if p >= ep {
         f.eu = ep;
@@ -77,6 +79,7 @@ fn evaporate(s: &mut Record, f: &mut Flows, p: u64, ep: u64) -> u64 {
 }
 
 /// Impervious and pervious runoff, RB and R, and the gain of the tension layers.
+#[inline(always)]
 fn produce(s: &mut Record, f: &mut Flows, pe: u64) {
     f.rb = s.im * pe / WHOLE;
     let x = pe - f.rb;
@@ -94,6 +97,7 @@ fn produce(s: &mut Record, f: &mut Flows, pe: u64) {
 }
 
 /// The free water: RS, RI and RG.
+#[inline(always)]
 fn separate(s: &mut Record, f: &mut Flows, pe: u64) {
     let mut keep = s.g;
     if f.r > 0 {
@@ -110,6 +114,7 @@ fn separate(s: &mut Record, f: &mut Flows, pe: u64) {
 }
 
 /// Interflow, ground water, the lag line and the CS store; gives Q in m³.
+#[inline(always)]
 fn route(s: &mut Record, f: &Flows) -> u64 {
     let ti = recede(&mut s.vi, s.ci, f.ri);
     let tg = recede(&mut s.vg, s.cg, f.rg);
@@ -119,6 +124,7 @@ fn route(s: &mut Record, f: &Flows) -> u64 {
 }
 
 /// A store whose two shares are what the recession leaves.
+#[inline(always)]
 fn recede(content: &mut u64, recession: u64, inflow: u64) -> u64 {
     let share = WHOLE - recession;
     let (store, outflow) = Store { a: share, g: share, content: *content }.pass(inflow);
@@ -127,13 +133,18 @@ fn recede(content: &mut u64, recession: u64, inflow: u64) -> u64 {
 }
 
 /// The amount that entered `lag` steps ago.
+#[inline(always)]
 fn delay(waiting: &mut [u64; WAITING], lag: usize, amount: u64) -> u64 {
     if lag == 0 {
         return amount;
     }
     let leaving = waiting[lag - 1];
-    waiting.copy_within(0..lag - 1, 1);
+    // All 15 are moved, which is quicker than the first L; past the lag stay zeros.
+    waiting.copy_within(..WAITING - 1, 1);
     waiting[0] = amount;
+    if lag < WAITING {
+        waiting[lag] = 0;
+    }
     leaving
 }
 

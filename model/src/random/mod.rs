@@ -56,6 +56,7 @@ fn put(what: &Put, path: &Path) -> io::Result<()> {
 mod tests {
     use super::*;
     use crate::file::load;
+    use crate::forcing::{Line, Reading};
     use crate::program::run;
 
     #[test]
@@ -74,6 +75,22 @@ mod tests {
             let words = words::basin(&counts, &mut chance);
             let given = load(&bytes(words));
             assert_eq!((given.number, given.place), (0, 0), "seed {seed}");
+        }
+    }
+
+    /// What `Basin::advance` counts on, for it doesn't judge 9.
+    #[test]
+    fn a_loaded_basin_stays_inside() {
+        for seed in 0..200 {
+            let mut chance = Chance::new(seed);
+            let counts = Counts::drawn(&mut chance);
+            let mut basin = load(&bytes(words::basin(&counts, &mut chance))).basin;
+            let rain = Reading::Measured(chance.of(&[0.0, 20.0, 1_000.0]));
+            let line = Line { rain, pan: chance.of(&[0.0, 5.0, 100.0]) };
+            for _ in 0..500 {
+                basin.advance(std::iter::repeat(line)).unwrap();
+                assert!(basin.inside(), "seed {seed}");
+            }
         }
     }
 
