@@ -1,5 +1,4 @@
 // The program: document 01, "What the program prints". It reads basin.bin and forcing.bin in the current folder.
-mod lines;
 mod print;
 mod run;
 

@@ -3,6 +3,7 @@
 ghost use mathlib.Core.Path.{_≡_};
 ghost use Prim.Native.Nat.{_+_, _≤_};
 ghost use lib.ListN.{length};
+use basin::step::Report;
 
 pub fn put_load(out: &mut [u8], number: u64, place: u64) -> usize
     requires { ⌜ 129 ≤ length (now out) ⌝ }
@@ -21,28 +22,28 @@ pub fn put_step(
     step: u64,
     number: u64,
     place: u64,
-    told: [u64; 5],
+    report: Report,
 ) -> usize
     requires { ⌜ at + 129 ≤ length (now out) ⌝ }
     ensures { λ r. ⌜ r ≤ at + 129 ⌝ }
 {
     let e0 = put_number(out, at, step);
     if number == 0 {
-        return put_accepted(out, e0, told);
+        return put_accepted(out, e0, report);
     }
     put_refused(out, e0, number, place)
 }
 
-fn put_accepted(out: &mut [u8], at: usize, told: [u64; 5]) -> usize
+fn put_accepted(out: &mut [u8], at: usize, report: Report) -> usize
     requires { ⌜ at + 109 ≤ length (now out) ⌝ }
     ensures { λ r. ⌜ r ≤ at + 109 ⌝ }
 {
     let e0 = put_text(out, at, b" ok");
-    let e1 = put_next(out, e0, told[0]);
-    let e2 = put_next(out, e1, told[1]);
-    let e3 = put_next(out, e2, told[2]);
-    let e4 = put_next(out, e3, told[3]);
-    let e5 = put_next(out, e4, told[4]);
+    let e1 = put_next(out, e0, report.rain);
+    let e2 = put_next(out, e1, report.evapotranspiration);
+    let e3 = put_next(out, e2, report.outlet);
+    let e4 = put_next(out, e3, report.content);
+    let e5 = put_next(out, e4, report.estimated);
     put_text(out, e5, b"\n")
 }
 

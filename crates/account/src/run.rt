@@ -1,12 +1,12 @@
 // The steps of the forcing file, a block of 170 at a time, so that a file of any length takes the same room.
 ghost use Prim.Native.Nat.{_≤_, _<_, _^_};
-use crate::lines;
 use crate::print;
-use basin::network::Basin;
+use basin::state::Basin;
 use basin::step;
+use forcing::file;
 use libc::STDOUT_FILENO;
 
-// The steps of a block: as many as io::large_buffer has room for, its 65,536 bytes at 12 a line, where N is 32.
+// The steps of a block: as many as io::large_buffer has room for, its 65,536 bytes at LINE_BYTES a line, where N is 32.
 const STEPS: u64 = 170;
 // More blocks than a run has time for.
 const BLOCKS: u64 = 36028797018963968; // 2^55
@@ -40,7 +40,7 @@ fn take_block(fd: i32, basin: Basin, n: u64, done: u64) -> Left
     requires { ⌜ (1 ≤ n) × (n ≤ 32) × (done < 2 ^ 63) ⌝ }
 {
     let mut input = io::large_buffer();
-    let whole = (12 * STEPS * n) as usize;
+    let whole = (file::LINE_BYTES * STEPS * n) as usize;
     let got = io::read_full(fd, &mut input[..whole]);
     let left = take_steps(&input[..got], basin, n, done);
     let after = left.basin;
@@ -58,7 +58,7 @@ fn take_steps(bytes: &[u8], basin: Basin, n: u64, done: u64) -> Left
     requires { ⌜ (1 ≤ n) × (n ≤ 32) × (done < 2 ^ 63) ⌝ }
 {
     let mut out = io::large_buffer();
-    let size = (12 * n) as usize;
+    let size = (file::LINE_BYTES * n) as usize;
     let mut basin = basin;
     let mut at = 0;
     let mut end = 0;
@@ -68,16 +68,17 @@ fn take_steps(bytes: &[u8], basin: Basin, n: u64, done: u64) -> Left
             break;
         }
         let next = at + size;
-        let lines = lines::lines_of(&bytes[at..next], n);
+        let lines = file::lines_of(&bytes[at..next], n);
         let given = step::step(basin, lines, n);
-        let told = [
-            given.rain,
-            given.evapotranspiration,
-            given.outlet,
-            given.content,
-            given.estimated,
-        ];
-        end = print::put_step(&mut out, end, done + i + 1, given.number, given.place, told);
+        let report = given.report;
+        end = print::put_step(
+            &mut out,
+            end,
+            done + i + 1,
+            given.number,
+            given.place,
+            report,
+        );
         basin = given.basin;
         at = next;
         i += 1;

@@ -1,17 +1,17 @@
 -- Demand 3: the water account of a whole list of steps.
 use mathlib.Core.Path.{_≡_}
-use Prim.Native.Nat.{ℕ, zero, suc, _+_, _*_, _≤_, _<_}
+use Prim.Native.Nat.{ℕ, _+_, _*_, _≤_, _<_}
 use mathlib.Core.Bool.{cond}
 use mathlib.Core.List.{List, [], _∷_}
 use mathlib.Core.Logic.{_↔_}
-use lib.ListN.{getD}
-use Rattle.forcing.specs.declared.Line.{Line}
-use Rattle.forcing.specs.Forcing.{lineAt, rainOf, reading, isInside, Inside}
+use Rattle.common.specs.Loops.{sumOf}
+use Rattle.forcing.specs.declared.list.Line.{Line}
+use Rattle.forcing.specs.List.{lineAt, weatherOf, reading, isInside, Inside}
 use Rattle.subbasin.specs.declared.record.SubBasin.{SubBasin}
-use Rattle.basin.specs.declared.network.Basin.{Basin}
+use Rattle.basin.specs.declared.state.Basin.{Basin}
 use Rattle.basin.specs.declared.step.Outcome.{Outcome}
 use Rattle.basin.specs.declared.file.Loaded.{Loaded}
-use Rattle.basin.specs.Basin.{blankSub, contentOf}
+use Rattle.basin.specs.State.{subAt, contentOf}
 use Rattle.basin.specs.File.{fileBasin}
 use Rattle.basin.specs.Step.{taken, stepCall}
 
@@ -34,17 +34,16 @@ lastBasin b (c ∷ cs) = lastBasin (stepCall b (c .lines) (c .count) .basin) cs
 -- the losses that the results report
 unfoldable pub losses : List Outcome → ℕ
 losses [] = 0
-losses (o ∷ os) = o .evapotranspiration + o .outlet + losses os
+losses (o ∷ os) = o .report .evapotranspiration + o .report .outlet + losses os
 
--- area × the rain depth of the sub-basin's own line, summed over sub-basins i, i + 1, .. of the file's basin
-unfoldable pub rainOfLines : Basin → List Line → ℕ → ℕ → ℕ
-rainOfLines b lines i zero = 0
-rainOfLines b lines i (suc left) = getD (b .subs) i blankSub .fixed .area * rainOf (lineAt lines i) + rainOfLines b lines (suc i) left
+-- area × the rain depth of the sub-basin's own line, summed over the file's sub-basins
+unfoldable pub rainOfLines : Basin → List Line → ℕ
+rainOfLines b lines = sumOf (λ i. subAt b i .fixed .area * weatherOf (lineAt lines i) .rain) (b .n)
 
 -- the rain in the lines of the calls whose forcing is inside the limits
 unfoldable pub rains : Basin → List Call → ℕ
 rains b [] = 0
-rains b (c ∷ cs) = cond (isInside (c .lines) (c .count) (b .n)) (rainOfLines b (c .lines) 0 (b .n)) 0 + rains b cs
+rains b (c ∷ cs) = cond (isInside (c .lines) (c .count) (b .n)) (rainOfLines b (c .lines)) 0 + rains b cs
 
 -- Document 01's rule, run beside: "a step with forcing outside the limits leaves that basin as it was, any other carries it on"
 unfoldable pub ruleAfter : Basin → Call → Basin
@@ -73,7 +72,7 @@ pub record Capacities (file now : SubBasin) : Type 0 where
 -- The account of a list of calls from the basin that a load handed back, over the basin of the file's words.
 pub record Accounted (file loaded : Basin) (calls : List Call) : Type 0 where
   pub balance : contentOf (lastBasin loaded calls) + losses (results loaded calls) ≡ contentOf file + rains file calls
-  pub capacities : (i : ℕ) → i < file .n → Capacities (getD (file .subs) i blankSub) (getD (lastBasin loaded calls .subs) i blankSub)
+  pub capacities : (i : ℕ) → i < file .n → Capacities (subAt file i) (subAt (lastBasin loaded calls) i)
   pub follows : AllFollow file loaded calls (results loaded calls)
 
 -- Demand 3, of a file and what its load handed back: "Start from any basin file that a load accepts and take any list of steps".

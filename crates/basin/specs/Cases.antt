@@ -3,36 +3,22 @@ use mathlib.Core.List.{List, [], _∷_, _++_}
 use Prim.Native.Nat.{ℕ}
 use lib.Ieee.{binary32, ofBits}
 use lib.ListN.{replicate}
-use Rattle.curve.specs.Cases.{Row, row, curveCases}
-use Rattle.forcing.specs.declared.Reading.{Reading}
-use Rattle.forcing.specs.declared.Reading.the-variants.{Measured, Missing}
-use Rattle.forcing.specs.Forcing.{blank, depthOf}
-use Rattle.subbasin.specs.Cases.{stepCases}
+use Rattle.common.specs.Bytes.{bytesOf}
+use Rattle.common.specs.Cases.{Row, row}
+use Rattle.curve.specs.Cases.{curveCases}
+use Rattle.forcing.specs.declared.list.Reading.{Reading}
+use Rattle.forcing.specs.declared.list.Reading.the-variants.{Measured, Missing}
+use Rattle.forcing.specs.Depth.{depthOf}
+use Rattle.forcing.specs.List.{blank}
+use Rattle.subbasin.specs.Cases.{words-a, stepCases}
 use Rattle.basin.specs.declared.step.Outcome.{Outcome}
 use Rattle.basin.specs.File.{loadCall}
 use Rattle.basin.specs.Step.{stepCall}
 use Rattle.basin.specs.Account.{Call}
 
--- N 1, M 0, then area, K, UM, LM, DM, C, BN, IM, SM, XN, KI, KG, CI, CG, CS, L, REACH and the starts WU, WL, WD, G, VI, VG
+-- N 1, M 0, then the sub-basin's words, as bytes
 abbrev pub file-a : List ℕ
-file-a =
-    1 ∷ 0 ∷ 0 ∷ 0
-    ∷ 0 ∷ 0 ∷ 0 ∷ 0
-    ∷ 1 ∷ 0 ∷ 0 ∷ 0
-    ∷ 0 ∷ 0 ∷ 1 ∷ 0
-    ∷ 32 ∷ 78 ∷ 0 ∷ 0
-    ∷ 96 ∷ 234 ∷ 0 ∷ 0
-    ∷ 64 ∷ 156 ∷ 0 ∷ 0
-    ∷ 0 ∷ 32 ∷ 0 ∷ 0
-    ∷ 24 ∷ 0 ∷ 0 ∷ 0
-    ∷ 0 ∷ 0 ∷ 0 ∷ 0
-    ∷ 32 ∷ 78 ∷ 0 ∷ 0
-    ∷ 24 ∷ 0 ∷ 0 ∷ 0
-    ∷ 0 ∷ 64 ∷ 0 ∷ 0
-    ∷ 0 ∷ 64 ∷ 0 ∷ 0
-    ∷ 0 ∷ 128 ∷ 0 ∷ 0
-    ∷ 0 ∷ 128 ∷ 0 ∷ 0
-    ∷ replicate 36 0
+file-a = bytesOf (1 ∷ 0 ∷ words-a)
 
 -- a call with one line, and the three of case A: rain 135 pan 0; missing; rain 0 pan 10
 
@@ -61,11 +47,11 @@ firstOutcome = stepCall (loadCall file-a .basin) (call-1 .lines) 1
 
 abbrev pub outcomeCases : List Row
 outcomeCases =
-    row (firstOutcome .rain) 135000
-    ∷ row (firstOutcome .evapotranspiration) 0
-    ∷ row (firstOutcome .outlet) 26666
-    ∷ row (firstOutcome .content) 108334
-    ∷ row (firstOutcome .estimated) 0
+    row (firstOutcome .report .rain) 135000
+    ∷ row (firstOutcome .report .evapotranspiration) 0
+    ∷ row (firstOutcome .report .outlet) 26666
+    ∷ row (firstOutcome .report .content) 108334
+    ∷ row (firstOutcome .report .estimated) 0
     ∷ []
 
 -- all proved cases

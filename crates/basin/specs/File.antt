@@ -1,20 +1,19 @@
 -- Document 01, "The basin file", and 1 to 4 of "Who sent it".
 use Prim.Native.Nat.{ℕ, zero, suc, _+_, _*_}
 use mathlib.Core.Bool.{cond}
-use mathlib.Core.List.{List, [], _∷_, _++_}
+use mathlib.Core.List.{List, [], _++_}
 use lib.Dec.{ltb, eqb}
-use lib.ListN.{length, getD, replicate}
-use Rattle.curve.specs.Shares.{within}
+use lib.ListN.{length}
+use Rattle.common.specs.Limits.{within, Word, firstOut}
+use Rattle.common.specs.Loops.{table}
+use Rattle.common.specs.Bytes.{wordAt}
 use Rattle.subbasin.specs.declared.record.SubBasin.{SubBasin}
-use Rattle.subbasin.specs.Record.{Word, firstOut, words}
-use Rattle.basin.specs.declared.network.Reach.{Reach}
-use Rattle.basin.specs.declared.network.Basin.{Basin}
+use Rattle.subbasin.specs.Record.{wordCount, words, ofWords, blankSub, mostStart}
+use Rattle.basin.specs.declared.reach.Reach.{Reach}
+use Rattle.basin.specs.declared.state.Basin.{Basin}
 use Rattle.basin.specs.declared.file.Loaded.{Loaded}
-use Rattle.basin.specs.Basin.{blankSub, blankReach, emptyBasin, reachWords}
-
--- "Little-endian 32-bit words, counted from 0"
-unfoldable pub wordAt : List ℕ → ℕ → ℕ
-wordAt f i = getD f (4 * i) 0 + 256 * getD f (4 * i + 1) 0 + 65536 * getD f (4 * i + 2) 0 + 16777216 * getD f (4 * i + 3) 0
+use Rattle.basin.specs.Reach.{reachWordCount, reachWords, blankReach}
+use Rattle.basin.specs.State.{mostN, mostM, emptyBasin}
 
 -- "N, M, then 23 words a sub-basin, then 3 a reach"
 abbrev pub fileN : List ℕ → ℕ
@@ -24,54 +23,19 @@ abbrev pub fileM : List ℕ → ℕ
 fileM f = wordAt f 1
 
 abbrev pub subStart : ℕ → ℕ
-subStart i = 2 + 23 * i
+subStart i = 2 + wordCount * i
 
 abbrev pub reachStart : ℕ → ℕ → ℕ
-reachStart n j = 2 + 23 * n + 3 * j
+reachStart n j = 2 + wordCount * n + reachWordCount * j
 
--- the record whose words start at word w: "lag lines, CS stores and reaches start empty"
+-- sub-basin i, counted from 0
 unfoldable pub fileSub : List ℕ → ℕ → SubBasin
-fileSub f w =
-    record {
-      fixed =
-          record {
-            area = wordAt f w;
-            k = wordAt f (w + 1);
-            um = wordAt f (w + 2);
-            lm = wordAt f (w + 3);
-            dm = wordAt f (w + 4);
-            c = wordAt f (w + 5);
-            bn = wordAt f (w + 6);
-            im = wordAt f (w + 7);
-            sm = wordAt f (w + 8);
-            xn = wordAt f (w + 9);
-            ki = wordAt f (w + 10);
-            kg = wordAt f (w + 11);
-            ci = wordAt f (w + 12);
-            cg = wordAt f (w + 13);
-            cs = wordAt f (w + 14);
-            reach = wordAt f (w + 16);
-          };
-      contents =
-          record {
-            wu = wordAt f (w + 17);
-            wl = wordAt f (w + 18);
-            wd = wordAt f (w + 19);
-            g = wordAt f (w + 20);
-            vi = wordAt f (w + 21);
-            vg = wordAt f (w + 22);
-          };
-      line = record { lag = wordAt f (w + 15); waiting = replicate 15 0 };
-      channel = 0;
-    }
+fileSub f i = ofWords (table (λ k. wordAt f (subStart i + k)) 0 wordCount wordCount)
 
-unfoldable pub fileReach : List ℕ → ℕ → Reach
-fileReach f w = record { c0 = wordAt f w; c1 = wordAt f (w + 1); next = wordAt f (w + 2); content = 0 }
-
--- `many` entries from index i on: x where the index is below n, and z past it
-unfoldable pub table : {A : Type 0} → (ℕ → A) → A → ℕ → ℕ → ℕ → List A
-table x z n i zero = []
-table x z n i (suc many) = cond (ltb i n) (x i) z ∷ table x z n (suc i) many
+-- reach j, counted from 0, after n sub-basins: "reaches start empty"
+unfoldable pub fileReach : List ℕ → ℕ → ℕ → Reach
+fileReach f n j =
+    record { c0 = wordAt f (reachStart n j); c1 = wordAt f (reachStart n j + 1); next = wordAt f (reachStart n j + 2); content = 0 }
 
 -- the basin of the file's words
 unfoldable pub fileBasin : List ℕ → Basin
@@ -79,23 +43,25 @@ fileBasin f =
     record {
       n = fileN f;
       m = fileM f;
-      subs = table (λ i. fileSub f (subStart i)) blankSub (fileN f) 0 32;
-      reaches = table (λ j. fileReach f (reachStart (fileN f) j)) blankReach (fileM f) 0 31;
+      subs = table (fileSub f) blankSub (fileN f) mostN;
+      reaches = table (fileReach f (fileN f)) blankReach (fileM f) mostM;
     }
 
--- the words of sub-basins i, i + 1, .. and of reaches j, j + 1, .. with their ranges
+-- the words of sub-basins i, i + 1, .. and of reaches j, j + 1, .., so many as are left, with their ranges
 unfoldable pub subWords : List ℕ → ℕ → ℕ → ℕ → List Word
 subWords f m i zero = []
-subWords f m i (suc left) =
-    words m 1000000 (fileSub f (subStart i) .fixed) (fileSub f (subStart i) .contents) (fileSub f (subStart i) .line .lag) ++ subWords f m (suc i) left
+subWords f m i (suc left) = words m mostStart (fileSub f i) ++ subWords f m (suc i) left
 
 unfoldable pub reachesWords : List ℕ → ℕ → ℕ → ℕ → ℕ → List Word
 reachesWords f n m j zero = []
-reachesWords f n m j (suc left) = reachWords m (suc j) (fileReach f (reachStart n j)) ++ reachesWords f n m (suc j) left
+reachesWords f n m j (suc left) = reachWords m (suc j) (fileReach f n j) ++ reachesWords f n m (suc j) left
 
--- all words of the file after N and M, in order
+-- all words after N and M, in order, of n sub-basins and m reaches
+abbrev pub allWords : List ℕ → ℕ → ℕ → List Word
+allWords f n m = subWords f m 0 n ++ reachesWords f n m 0 m
+
 abbrev pub fileWords : List ℕ → List Word
-fileWords f = subWords f (fileM f) 0 (fileN f) ++ reachesWords f (fileN f) (fileM f) 0 (fileM f)
+fileWords f = allWords f (fileN f) (fileM f)
 
 -- "a refused load hands back the empty basin"
 abbrev pub refusedLoad : ℕ → ℕ → Loaded
@@ -110,11 +76,11 @@ loadWords f = cond (eqb (firstOut (fileWords f)) (length (fileWords f))) (accept
 
 -- "3 length not 4 × (2 + 23N + 3M) (place 0)"
 unfoldable pub loadLength : List ℕ → Loaded
-loadLength f = cond (eqb (length f) (4 * (2 + 23 * fileN f + 3 * fileM f))) (loadWords f) (refusedLoad 3 0)
+loadLength f = cond (eqb (length f) (4 * (2 + wordCount * fileN f + reachWordCount * fileM f))) (loadWords f) (refusedLoad 3 0)
 
 -- "2 N or M outside its range (place 0 or 1, N first)"
 unfoldable pub loadCounts : List ℕ → Loaded
-loadCounts f = cond (within 1 (fileN f) 32) (cond (within 0 (fileM f) 31) (loadLength f) (refusedLoad 2 1)) (refusedLoad 2 0)
+loadCounts f = cond (within 1 (fileN f) mostN) (cond (within 0 (fileM f) mostM) (loadLength f) (refusedLoad 2 1)) (refusedLoad 2 0)
 
 -- "1 under 8 bytes (place 0)"; "A load checks in this order"
 unfoldable pub loadCall : List ℕ → Loaded

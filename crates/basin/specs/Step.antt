@@ -1,85 +1,79 @@
 -- Document 01: one step of the basin, its report, and the step call.
-use Prim.Native.Nat.{ℕ, zero, suc, _+_, _*_}
+use Prim.Native.Nat.{ℕ, _+_, _*_}
 use mathlib.Core.Bool.{cond}
-use mathlib.Core.List.{List, [], _∷_, _++_, map}
+use mathlib.Core.List.{List}
 use lib.Dec.{eqb}
-use lib.ListN.{getD, drop, replicate}
-use Rattle.forcing.specs.declared.Line.{Line}
-use Rattle.forcing.specs.declared.Forcing.{Forcing}
-use Rattle.forcing.specs.Forcing.{reading}
-use Rattle.subbasin.specs.declared.record.SubBasin.{SubBasin}
+use lib.ListN.{getD, replicate}
+use Rattle.common.specs.declared.weather.Weather.{Weather}
+use Rattle.common.specs.Weather.{calm}
+use Rattle.common.specs.Loops.{run, filled, sumOf}
+use Rattle.forcing.specs.declared.list.Line.{Line}
+use Rattle.forcing.specs.declared.list.Forcing.{Forcing}
+use Rattle.forcing.specs.List.{reading}
 use Rattle.subbasin.specs.declared.step.Stepped.{Stepped}
 use Rattle.subbasin.specs.Step.{stepped}
-use Rattle.basin.specs.declared.network.Basin.{Basin}
+use Rattle.basin.specs.declared.state.Basin.{Basin}
 use Rattle.basin.specs.declared.step.Outcome.{Outcome}
-use Rattle.basin.specs.Basin.{contentOf, basinIn}
-use Rattle.basin.specs.Network.{sendAll, flows, reachesAfter}
+use Rattle.basin.specs.State.{subAt, reachAt, contentOf}
+use Rattle.basin.specs.Limits.{basinIn}
+use Rattle.basin.specs.Network.{send, flows, reachesAfter}
 
--- the steps of the first n sub-basins, each under its own rain and pan depth, in µm
-unfoldable pub subSteps : ℕ → List SubBasin → List ℕ → List ℕ → List Stepped
-subSteps zero ss rains pans = []
-subSteps (suc n) [] rains pans = []
-subSteps (suc n) (s ∷ ss) [] pans = []
-subSteps (suc n) (s ∷ ss) (rain ∷ rains) [] = []
-subSteps (suc n) (s ∷ ss) (rain ∷ rains) (pan ∷ pans) = stepped s rain pan ∷ subSteps n ss rains pans
+-- the step of sub-basin i, counted from 0, under the weather of its own line
+abbrev pub stepOf : Basin → List Weather → ℕ → Stepped
+stepOf b ws i = stepped (subAt b i) (getD ws i calm)
 
--- what the sub-basins send
-abbrev pub sentBy : List Stepped → List ℕ
-sentBy steps = sendAll (replicate 32 0) steps
+-- "Q, sent to reach REACH, or to the outlet if 0": what the first k sub-basins have sent
+unfoldable pub sentBy : Basin → List Weather → ℕ → List ℕ
+sentBy b ws k = run (λ i p. send p (subAt b i .fixed .reach) (stepOf b ws i .q)) k (replicate 32 0)
 
--- the basin after its sub-basins' steps
-unfoldable pub basinAfter : Basin → List Stepped → Basin
-basinAfter b steps =
+-- the basin after its step
+unfoldable pub basinAfter : Basin → List Weather → Basin
+basinAfter b ws =
     record {
       n = b .n;
       m = b .m;
-      subs = map (λ s. s .after) steps ++ drop (b .n) (b .subs);
-      reaches = reachesAfter 1 (b .m) (b .reaches) (sentBy steps);
+      subs = filled (λ i. stepOf b ws i .after) (b .n) (b .subs);
+      reaches = reachesAfter (b .reaches) (b .m) (sentBy b ws (b .n));
     }
 
--- "Outlet volume is the Q and the reach outflows sent to the outlet"
-unfoldable pub outletOf : Basin → List Stepped → ℕ
-outletOf b steps = getD (flows 1 (b .m) (b .reaches) (sentBy steps)) 0 0
-
--- "A step's rain in m³ is area × the rain depth in µm of the sub-basin's line", summed over the first n sub-basins
-unfoldable pub rainVolume : ℕ → List SubBasin → List ℕ → ℕ
-rainVolume zero ss rains = 0
-rainVolume (suc n) [] rains = 0
-rainVolume (suc n) (s ∷ ss) [] = 0
-rainVolume (suc n) (s ∷ ss) (rain ∷ rains) = s .fixed .area * rain + rainVolume n ss rains
+-- "A step's rain in m³ is area × the rain depth in µm of the sub-basin's line", "summed over sub-basins 1..N"
+unfoldable pub rainVolume : Basin → List Weather → ℕ
+rainVolume b ws = sumOf (λ i. subAt b i .fixed .area * getD ws i calm .rain) (b .n)
 
 -- "its evapotranspiration area × (EU + EL + ED)"
-unfoldable pub lossVolume : List Stepped → ℕ
-lossVolume [] = 0
-lossVolume (s ∷ ss) = s .after .fixed .area * (s .eu + s .el + s .ed) + lossVolume ss
+unfoldable pub lossVolume : Basin → List Weather → ℕ
+lossVolume b ws = sumOf (λ i. subAt b i .fixed .area * (stepOf b ws i .eu + stepOf b ws i .el + stepOf b ws i .ed)) (b .n)
 
--- the outcome, from the sub-basins' steps
-abbrev pub reported : Basin → List Stepped → ℕ → ℕ → Outcome
-reported b steps rain estimated =
+-- "Outlet volume is the Q and the reach outflows sent to the outlet"
+unfoldable pub outletVolume : Basin → List Weather → ℕ
+outletVolume b ws = getD (flows (b .reaches) (b .m) (sentBy b ws (b .n))) 0 0
+
+-- An accepted step.
+unfoldable pub taken : Basin → Forcing → Outcome
+taken b f =
     record {
       number = 0;
       place = 0;
-      basin = basinAfter b steps;
-      rain = rain;
-      evapotranspiration = lossVolume steps;
-      outlet = outletOf b steps;
-      content = contentOf (basinAfter b steps);
-      estimated = estimated;
+      basin = basinAfter b (f .weather);
+      report =
+          record {
+            rain = rainVolume b (f .weather);
+            evapotranspiration = lossVolume b (f .weather);
+            outlet = outletVolume b (f .weather);
+            content = contentOf (basinAfter b (f .weather));
+            estimated = f .estimated;
+          };
     }
-
--- An accepted step, under depths inside their limits.
-unfoldable pub taken : Basin → Forcing → Outcome
-taken b f = reported b (subSteps (b .n) (b .subs) (f .rain) (f .pan)) (rainVolume (b .n) (b .subs) (f .rain)) (f .estimated)
 
 -- "A refused step reports zeros", and hands back the basin that it got
 abbrev pub refusedStep : Basin → ℕ → ℕ → Outcome
 refusedStep b number place =
-    record { number = number; place = place; basin = b; rain = 0; evapotranspiration = 0; outlet = 0; content = 0; estimated = 0 }
+    record { number = number; place = place; basin = b; report = record { rain = 0; evapotranspiration = 0; outlet = 0; content = 0; estimated = 0 } }
 
--- the forcing judged
-unfoldable pub judged : Basin → Forcing → Outcome
-judged b f = cond (eqb (f .number) 0) (taken b f) (refusedStep b (f .number) (f .place))
+-- 5 to 8, and otherwise an accepted step
+unfoldable pub answered : Basin → Forcing → Outcome
+answered b f = cond (eqb (f .number) 0) (taken b f) (refusedStep b (f .number) (f .place))
 
 -- "9 .. judged before 5"
 unfoldable pub stepCall : Basin → List Line → ℕ → Outcome
-stepCall b lines count = cond (basinIn b) (judged b (reading lines count (b .n))) (refusedStep b 9 0)
+stepCall b lines count = cond (basinIn b) (answered b (reading lines count (b .n))) (refusedStep b 9 0)

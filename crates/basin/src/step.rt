@@ -1,26 +1,24 @@
 // One step of the basin: document 01, "One sub-basin, one step", "The store law" and "The forcing list".
 ghost use mathlib.Core.Path.{_≡_};
-ghost use mathlib.Core.Bool.{true};
-ghost use Prim.Native.Nat.{ℕ, _≤_};
-ghost use lib.ListN.{getD};
-ghost use Rattle.basin.specs.Basin.{subsIn, basinIn};
+ghost use mathlib.Core.Bool.{true, cond};
+ghost use Prim.Native.Nat.{_≤_};
+ghost use Rattle.common.specs.Weather.{WeatherIn};
+ghost use Rattle.basin.specs.Limits.{othersIn, basinIn};
 ghost use Rattle.basin.specs.Step.{taken, refusedStep, stepCall};
-ghost use Rattle.basin.specs.Work.{DepthsUpTo, SubsStepped};
-use crate::content;
+ghost use Rattle.basin.specs.Workers.{Weathers, TurnOf, subsOnly, SubsOf};
+use crate::limits;
 use crate::network;
-use crate::network::Basin;
-use crate::routing;
-use forcing::Forcing;
-use forcing::Line;
+use crate::state::Basin;
+use common::weather::Weather;
+use forcing::list;
+use forcing::list::Forcing;
+use forcing::list::Line;
+use subbasin::content;
 use subbasin::record::SubBasin;
 use subbasin::step;
 
-// What a step hands back: number and place are 0 where it is accepted. Rain, evapotranspiration, outlet volume and content in m³,
-// and how many lines were estimated.
-pub struct Outcome {
-    pub number: u64,
-    pub place: u64,
-    pub basin: Basin,
+// What a step reports: rain, evapotranspiration, outlet volume and content in m³, and how many lines were estimated.
+pub struct Report {
     pub rain: u64,
     pub evapotranspiration: u64,
     pub outlet: u64,
@@ -28,16 +26,28 @@ pub struct Outcome {
     pub estimated: u64,
 }
 
+// What a step hands back: number and place are 0 where it is accepted.
+pub struct Outcome {
+    pub number: u64,
+    pub place: u64,
+    pub basin: Basin,
+    pub report: Report,
+}
+
 // One step under a forcing list of count lines. 9 is judged before 5, and 5 before the lines.
 pub fn step(b: Basin, lines: [Line; 32], count: u64) -> Outcome
     ensures { λ r. ⌜ r ≡ stepCall b lines count ⌝ }
 {
-    if network::allowed(b) {
-        let f = forcing::read(lines, count, b.n);
+    let f = list::read(lines, count, b.n);
+    if limits::others_allowed(b) {
         if f.number == 0 {
             return take(b, f);
         }
-        return refuse(b, f.number, f.place);
+        let subs = b.subs;
+        if limits::subs_used(subs, b.n, b.m) {
+            return refuse(b, f.number, f.place);
+        }
+        return refuse(b, 9, 0);
     }
     refuse(b, 9, 0)
 }
@@ -50,49 +60,56 @@ fn refuse(b: Basin, number: u64, place: u64) -> Outcome
         number,
         place,
         basin: b,
-        rain: 0,
-        evapotranspiration: 0,
-        outlet: 0,
-        content: 0,
-        estimated: 0,
+        report: Report {
+            rain: 0,
+            evapotranspiration: 0,
+            outlet: 0,
+            content: 0,
+            estimated: 0,
+        },
     }
 }
 
-// An accepted step.
+// A step whose forcing is accepted, on a basin that 9 allows but for the sub-basins in use: their own steps judge their records, and
+// a refusal there is the basin's 9.
 fn take(b: Basin, f: Forcing) -> Outcome
-    requires { ⌜ (basinIn b ≡ true) × DepthsUpTo (f .rain) 1000000 × DepthsUpTo (f .pan) 100000 ⌝ }
-    ensures { λ r. ⌜ r ≡ taken b f ⌝ }
+    requires { ⌜ (othersIn b ≡ true) × Weathers (f .weather) ⌝ }
+    ensures { λ r. ⌜ r ≡ cond (basinIn b) (taken b f) (refusedStep b 9 0) ⌝ }
 {
     let before = b.subs;
-    let rain = f.rain;
-    let pan = f.pan;
-    let stepped = step_subs(before, rain, pan, b.n, b.m);
+    let weather = f.weather;
+    let stepped = step_subs(before, weather, b.n, b.m);
+    if stepped.number != 0 {
+        return refuse(b, 9, 0);
+    }
     let reaches_before = b.reaches;
     let sent = stepped.sent;
-    let routed = routing::route(reaches_before, sent, b.m);
+    let routed = network::route(reaches_before, sent, b.m);
     let subs = stepped.subs;
     let reaches = routed.reaches;
-    let content = stepped.held + content::reaches_hold(reaches, b.m);
-    let basin = Basin {
-        n: b.n,
-        m: b.m,
-        subs,
-        reaches,
-    };
     Outcome {
         number: 0,
         place: 0,
-        basin,
-        rain: stepped.rain,
-        evapotranspiration: stepped.loss,
-        outlet: routed.outlet,
-        content,
-        estimated: f.estimated,
+        basin: Basin {
+            n: b.n,
+            m: b.m,
+            subs,
+            reaches,
+        },
+        report: Report {
+            rain: stepped.rain,
+            evapotranspiration: stepped.loss,
+            outlet: routed.outlet,
+            content: stepped.held + routed.held,
+            estimated: f.estimated,
+        },
     }
 }
 
-// The sub-basins after their steps, what they sent to the outlet and the reaches, rain and loss, and what they then hold.
+// The sub-basins after their steps, what they sent to the outlet and the reaches, rain and loss, and what they then hold; number is
+// 9 where one is refused.
 struct Subs {
+    number: u64,
     subs: [SubBasin; 32],
     sent: [u64; 32],
     rain: u64,
@@ -100,41 +117,86 @@ struct Subs {
     held: u64,
 }
 
-// The steps of sub-basins 1..n under their rain and pan depths in µm.
-fn step_subs(subs: [SubBasin; 32], rain: [u64; 32], pan: [u64; 32], n: u64, m: u64) -> Subs
-    requires { ⌜ (n ≤ 32) × (m ≤ 31) × (subsIn m n subs ≡ true) × DepthsUpTo rain 1000000 × DepthsUpTo pan 100000 ⌝ }
-    ensures { λ r. ⌜ SubsStepped n subs rain pan (r .subs) (r .sent) (r .rain) (r .loss) (r .held) ⌝ }
+// The steps of sub-basins 1..N.
+fn step_subs(before: [SubBasin; 32], weather: [Weather; 32], n: u64, m: u64) -> Subs
+    requires { ⌜ (n ≤ 32) × (m ≤ 31) × Weathers weather ⌝ }
+    ensures { λ r. ⌜ SubsOf (subsOnly n m before) weather r ⌝ }
 {
-    let mut after = subs;
-    let mut sent = [0u64; 32];
-    let mut rained = 0;
-    let mut lost = 0;
-    let mut held = 0;
+    let mut run = Subs {
+        number: 0,
+        subs: before,
+        sent: [0u64; 32],
+        rain: 0,
+        loss: 0,
+        held: 0,
+    };
     let mut i: u64 = 0;
     while i < n {
         let at = i as usize;
-        let s = after[at];
-        // For the proof alone: the line has 15 places.
-        let line = s.line;
-        let places = line.places();
-        let depth = rain[at];
-        let st = step::step(s, depth, pan[at]);
-        let next = st.after;
-        after[at] = next;
-        let was = s.fixed;
-        let p = next.fixed;
-        let to = p.reach as usize;
-        sent[to] = sent[to] + st.q;
-        rained = rained + was.area * depth;
-        lost = lost + p.area * (st.eu + st.el + st.ed);
-        held = held + content::water_of(next);
+        let s = run.subs[at];
+        let w = weather[at];
+        let t = take_turn(s, w, m);
+        if t.number != 0 {
+            run.number = t.number;
+            return run;
+        }
+        let next = t.after;
+        run.subs[at] = next;
+        let to = t.to as usize;
+        run.sent[to] = run.sent[to] + t.q;
+        run.rain = run.rain + t.rain;
+        run.loss = run.loss + t.loss;
+        run.held = run.held + t.held;
         i += 1;
     }
-    Subs {
-        subs: after,
-        sent,
-        rain: rained,
-        loss: lost,
-        held,
+    run
+}
+
+// One sub-basin after its step, the volume q that it sends and where to, its rain and loss, and what it then holds, all in m³.
+struct Turn {
+    number: u64,
+    after: SubBasin,
+    to: u64,
+    q: u64,
+    rain: u64,
+    loss: u64,
+    held: u64,
+}
+
+fn take_turn(s: SubBasin, w: Weather, m: u64) -> Turn
+    requires { ⌜ (m ≤ 31) × WeatherIn w ⌝ }
+    ensures { λ r. ⌜ TurnOf m s w r ⌝ }
+{
+    let p = s.fixed;
+    if m < p.reach {
+        return refused(s);
+    }
+    let st = step::step(s, w);
+    if st.number != 0 {
+        return refused(s);
+    }
+    let after = st.after;
+    Turn {
+        number: 0,
+        after,
+        to: p.reach,
+        q: st.q,
+        rain: p.area * w.rain,
+        loss: p.area * (st.eu + st.el + st.ed),
+        held: content::water_of(after),
+    }
+}
+
+fn refused(s: SubBasin) -> Turn
+    ensures { λ r. ⌜ r .number ≡ 9 ⌝ }
+{
+    Turn {
+        number: 9,
+        after: s,
+        to: 0,
+        q: 0,
+        rain: 0,
+        loss: 0,
+        held: 0,
     }
 }

@@ -1,9 +1,9 @@
 // Steps that go astray: a count that isn't N, bad lines, and a basin that is outside its limits.
-use crate::drafts::next;
 use crate::places;
-use basin::network::Basin;
-use forcing::Line;
-use forcing::Reading;
+use basin::state::Basin;
+use forcing::list::Line;
+use forcing::list::Reading;
+use testing::chance::next;
 
 // What a step takes.
 pub struct Call {

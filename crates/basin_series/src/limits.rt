@@ -1,22 +1,22 @@
 // Every number of a basin in turn: one below its least, at its least, at its most, one above, and at the greatest u64.
-use crate::checksum;
-use crate::lines;
 use crate::places;
+use crate::series;
 use crate::series::Ran;
 use crate::weather;
-use basin::network::Basin;
+use basin::state::Basin;
 use basin::step;
+use testing::lines;
+use testing::spots::Part;
 
 pub fn print(basin: Basin, x: u64) {
-    let s = places(basin, x);
-    lines::word(b"limits");
-    lines::number(s.h);
-    lines::end();
+    let s = each(Ran { basin, x, h: 0 }, places::PLACES);
+    lines::line(b"limits", &[s.h]);
 }
 
-fn places(basin: Basin, x: u64) -> Ran {
-    let mut s = Ran { basin, x, h: 0 };
-    for place in 0..1374 {
+// Places 0..count.
+fn each(start: Ran, count: usize) -> Ran {
+    let mut s = start;
+    for place in 0..count {
         s = line(s, place);
     }
     s
@@ -41,18 +41,18 @@ fn line(s: Ran, place: usize) -> Ran {
 }
 
 fn is_shown(place: usize) -> bool {
-    if place < 2 {
-        return true;
+    let spot = places::spot_of(place);
+    let part = spot.part;
+    match part {
+        Part::Count => true,
+        Part::Sub => spot.index % 10 == 2,
+        Part::Reach => spot.index % 10 == 1,
     }
-    if place < 1250 {
-        return (place - 2) / 39 % 10 == 2;
-    }
-    (place - 1250) / 4 % 10 == 1
 }
 
 fn told(s: Ran, place: usize, which: u64, shown: bool) -> Ran {
     let b = s.basin;
-    let sky = weather::drawn(weather::at_step(which % 5 * 32), s.x);
+    let sky = weather::drawn(which % 5 * 32, s.x);
     let lines = sky.lines;
     let given = step::step(
         places::with(b, place, places::edge(b, place, which)),
@@ -65,6 +65,6 @@ fn told(s: Ran, place: usize, which: u64, shown: bool) -> Ran {
     Ran {
         basin: b,
         x: sky.x,
-        h: checksum::fold_outcome(s.h, given),
+        h: series::fold(s.h, given),
     }
 }

@@ -1,25 +1,19 @@
 // The step call: case A of document 01, every number of a basin at both ends of its limits and beyond, and long series on basins of
 // every shape, with refused steps among them. What it must print comes from the second model: `model expect basin_series`.
-mod checksum;
-mod drafts;
 mod faults;
-mod files;
 mod limits;
-mod lines;
 mod places;
 mod plan;
-mod ranges;
-mod rows;
 mod series;
 mod weather;
 
-use basin::network::Basin;
+use basin::state::Basin;
 use basin::step;
-use drafts::Choice;
-use drafts::Plan;
-use drafts::Shape;
-use forcing::Line;
-use forcing::Reading;
+use forcing::list::Line;
+use forcing::list::Reading;
+use testing::choices::Choice;
+use testing::drafts::Plan;
+use testing::drafts::Shape;
 
 fn main() {
     case_a();
@@ -28,7 +22,7 @@ fn main() {
 }
 
 fn case_a() {
-    let start = drafts::loaded(chain(Choice::CaseA, 1, 0), 1);
+    let start = series::started(chain(Choice::CaseA, 1, 0), 1);
     let first = printed(1, start.basin, Reading::Measured(135.0), 0.0);
     let second = printed(2, first, Reading::Missing, 0.0);
     printed(3, second, Reading::Measured(0.0), 10.0);
@@ -36,8 +30,8 @@ fn case_a() {
 
 // Three ordinary sub-basins and two reaches after 24 steps.
 fn limits_after_steps() {
-    let start = drafts::loaded(chain(Choice::Ordinary, 3, 2), 1);
-    let ran = series::run(start.basin, start.x, 24);
+    let start = series::started(chain(Choice::Ordinary, 3, 2), 1);
+    let ran = series::run(start, 24);
     limits::print(ran.basin, ran.x);
 }
 
@@ -54,6 +48,6 @@ fn chain(choice: Choice, n: u64, m: u64) -> Plan {
 fn printed(i: u64, b: Basin, rain: Reading, pan: f32) -> Basin {
     let line = Line { rain, pan };
     let given = step::step(b, [line; 32], 1);
-    lines::step(i, given);
+    series::print(i, given);
     given.basin
 }

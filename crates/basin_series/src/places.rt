@@ -1,36 +1,82 @@
-// A basin as 1,374 numbers by place: 0 N, 1 M, then 39 a record, then c0, c1, next and content a reach.
-use crate::ranges;
-use crate::rows;
-use basin::network::Basin;
-use basin::network::Reach;
+// A basin as numbers by place: N, M, then each record's numbers, then c0, c1, next and content of each reach.
+use basin::reach::Reach;
+use basin::state::Basin;
+use subbasin::record;
+use subbasin::record::MOST_SLOW;
+use subbasin::record::SubBasin;
+use testing::lines;
+use testing::ranges;
+use testing::ranges::Range;
+use testing::rows;
+use testing::spots;
+use testing::spots::Part;
+use testing::spots::Spot;
+
+// The first place of the reaches.
+const REACHES: usize = 2 + 32 * rows::PLACES;
+
+pub const PLACES: usize = REACHES + 31 * 4;
+
+pub fn spot_of(place: usize) -> Spot {
+    if place < 2 {
+        return spots::at(Part::Count, place, 0);
+    }
+    if place < REACHES {
+        return spots::at(
+            Part::Sub,
+            (place - 2) % rows::PLACES,
+            (place - 2) / rows::PLACES,
+        );
+    }
+    spots::at(Part::Reach, (place - REACHES) % 4, (place - REACHES) / 4)
+}
+
+fn sub_at(b: Basin, i: usize) -> SubBasin {
+    let subs = b.subs;
+    subs[i % 32]
+}
+
+fn reach_at(b: Basin, j: usize) -> Reach {
+    let reaches = b.reaches;
+    reaches[j % 31]
+}
 
 pub fn at(b: Basin, place: usize) -> u64 {
-    if place == 0 {
-        return b.n;
+    let spot = spot_of(place);
+    let part = spot.part;
+    match part {
+        Part::Count => if place == 0 { b.n } else { b.m },
+        Part::Sub => rows::at(sub_at(b, spot.index), spot.place),
+        Part::Reach => {
+            let r = reach_at(b, spot.index);
+            let numbers = [r.c0, r.c1, r.next, r.content];
+            numbers[spot.place % 4]
+        }
     }
-    if place == 1 {
-        return b.m;
+}
+
+// A basin in full.
+pub fn print(b: Basin) {
+    lines::word(b"basin");
+    numbers(b, PLACES);
+    lines::end();
+}
+
+fn numbers(b: Basin, count: usize) {
+    for place in 0..count {
+        lines::number(at(b, place));
     }
-    if place < 1250 {
-        let subs = b.subs;
-        let s = subs[(place - 2) / 39 % 32];
-        return rows::at(rows::row_of(s), (place - 2) % 39);
-    }
-    let reaches = b.reaches;
-    let r = reaches[(place - 1250) / 4 % 31];
-    let numbers = [r.c0, r.c1, r.next, r.content];
-    numbers[(place - 1250) % 4]
 }
 
 // The basin with v at a place.
 pub fn with(b: Basin, place: usize, v: u64) -> Basin {
-    if place < 2 {
-        return with_count(b, place, v);
+    let spot = spot_of(place);
+    let part = spot.part;
+    match part {
+        Part::Count => with_count(b, place, v),
+        Part::Sub => with_record(b, spot.index, spot.place, v),
+        Part::Reach => with_reach(b, spot.index, spot.place, v),
     }
-    if place < 1250 {
-        return with_record(b, (place - 2) / 39 % 32, (place - 2) % 39, v);
-    }
-    with_reach(b, (place - 1250) / 4 % 31, (place - 1250) % 4, v)
 }
 
 fn with_count(b: Basin, place: usize, v: u64) -> Basin {
@@ -48,7 +94,7 @@ fn with_record(b: Basin, i: usize, place: usize, v: u64) -> Basin {
     let mut subs = b.subs;
     let reaches = b.reaches;
     let s = subs[i % 32];
-    subs[i % 32] = rows::sub_of(rows::with(rows::row_of(s), place, v));
+    subs[i % 32] = rows::with(s, place, v);
     Basin {
         n: b.n,
         m: b.m,
@@ -81,38 +127,14 @@ fn reach_with(r: Reach, place: usize, v: u64) -> Reach {
     }
 }
 
-// The least and the most at a place, and what stands below.
-struct Range {
-    below: u64,
-    least: u64,
-    most: u64,
-}
-
-// Below 0 stands the greatest u64.
-fn between(least: u64, most: u64) -> Range {
-    let below = if 0 < least {
-        least - 1
-    } else {
-        18446744073709551615
-    };
-    Range { below, least, most }
-}
-
-// A value for a place: 0 below its range, 1 its least, 2 its most, 3 above it, 4 the greatest u64.
+// A value for a place by its edge.
 pub fn edge(b: Basin, place: usize, which: u64) -> u64 {
-    let range = range_of(b, place);
-    match which {
-        0 => range.below,
-        1 => range.least,
-        2 => range.most,
-        3 => range.most % 72057594037927937 + 1,
-        _ => 18446744073709551615,
-    }
+    ranges::edge(range_of(b, place), which)
 }
 
 // One number below or above its range, or the greatest, drawn.
 pub fn damaged(b: Basin, x: u64, y: u64) -> Basin {
-    let place = (x % 1374) as usize;
+    let place = x as usize % PLACES;
     let which = match y % 3 {
         0 => 0,
         1 => 3,
@@ -121,10 +143,11 @@ pub fn damaged(b: Basin, x: u64, y: u64) -> Basin {
     with(b, place, edge(b, place, which))
 }
 
-// VI, VG, amounts in waiting, channel stores and reaches all at their limits; where all is to flow at once, CI, CG and CS are 0.
-pub fn brimming(b: Basin, at_once: bool) -> Basin {
+// Places 0..count: VI, VG, amounts in waiting, channel stores and reaches at their limits; where all is to flow at once, CI, CG and
+// CS are 0.
+pub fn brimming(b: Basin, count: usize, at_once: bool) -> Basin {
     let mut b = b;
-    for place in 0..1374 {
+    for place in 0..count {
         b = raised(b, place, at_once);
     }
     b
@@ -132,7 +155,7 @@ pub fn brimming(b: Basin, at_once: bool) -> Basin {
 
 fn raised(b: Basin, place: usize, at_once: bool) -> Basin {
     let which = if at_once { 1 } else { 2 };
-    match kind_of(place) {
+    match kind_of(spot_of(place)) {
         Kind::Amount => with(b, place, edge(b, place, 2)),
         Kind::Recession => with(b, place, edge(b, place, which)),
         Kind::Other => b,
@@ -145,82 +168,62 @@ enum Kind {
     Other,
 }
 
-fn kind_of(place: usize) -> Kind {
-    if place < 2 {
-        return Kind::Other;
-    }
-    if 1250 <= place {
-        return if place % 4 == 1 {
+fn kind_of(spot: Spot) -> Kind {
+    let part = spot.part;
+    match part {
+        Part::Count => Kind::Other,
+        Part::Sub => kind_in_sub(spot.place),
+        Part::Reach => if spot.place == 3 {
             Kind::Amount
         } else {
             Kind::Other
-        };
+        },
     }
-    match (place - 2) % 39 {
+}
+
+fn kind_in_sub(place: usize) -> Kind {
+    if record::WORDS <= place {
+        return Kind::Amount;
+    }
+    match place {
         12 | 13 | 14 => Kind::Recession,
-        21..=38 => Kind::Amount,
+        21 | 22 => Kind::Amount,
         _ => Kind::Other,
     }
 }
 
-// Document 01, refusal 9: the file's ranges but for VI and VG, amounts in waiting up to 2^50, stores and reaches up to 2^56, and 0
-// where unused.
+// Document 01, refusal 9. What is unused is 0.
 fn range_of(b: Basin, place: usize) -> Range {
-    if place == 0 {
-        return between(1, 32);
+    let spot = spot_of(place);
+    let part = spot.part;
+    match part {
+        Part::Count => ranges::of_count(place),
+        Part::Sub => record_range(b, spot.index, spot.place),
+        Part::Reach => reach_range(b, spot.index, spot.place),
     }
-    if place == 1 {
-        return between(0, 31);
-    }
-    if place < 1250 {
-        return record_range(b, (place - 2) / 39 % 32, (place - 2) % 39);
-    }
-    reach_range(b, (place - 1250) / 4 % 31, (place - 1250) % 4)
 }
 
 fn record_range(b: Basin, i: usize, place: usize) -> Range {
-    let subs = b.subs;
-    let s = subs[i % 32];
-    let row = rows::row_of(s);
-    let words = row.words;
     if b.n <= i as u64 {
-        return between(0, 0);
+        return ranges::between(0, 0);
     }
-    if 23 <= place {
-        return between(0, amount_most(place, words[15]));
-    }
-    let limit = words[ranges::limited_by(place, place) % 23];
-    between(ranges::least(place, limit), ranges::most(place, limit, b.m))
-}
-
-// An amount in waiting is in use up to the lag; 38 is the channel store.
-fn amount_most(place: usize, lag: u64) -> u64 {
-    if place == 38 {
-        return 72057594037927936;
-    }
-    if (place as u64) < 23 + lag % 16 {
-        1125899906842624
-    } else {
-        0
-    }
+    ranges::of_number(sub_at(b, i), place, b.m, MOST_SLOW)
 }
 
 // Below next stands the reach's own number.
 fn reach_range(b: Basin, j: usize, place: usize) -> Range {
-    let reaches = b.reaches;
-    let r = reaches[j % 31];
+    let r = reach_at(b, j);
     let own = j as u64 % 31 + 1;
     if b.m < own {
-        return between(0, 0);
+        return ranges::between(0, 0);
     }
     match place {
-        0 => between(0, 65536),
-        1 => between(ranges::least(24, r.c0), ranges::most(24, r.c0, 0)),
         2 => Range {
             below: own,
             least: 0,
             most: if own < b.m { b.m } else { 0 },
         },
-        _ => between(0, 72057594037927936),
+        3 => ranges::between(0, 72057594037927936),
+        _ => ranges::of_reach_word(place, r.c0, b.m),
     }
 }

@@ -1,11 +1,12 @@
 // The series that are run: a line for each, with its shape, its choice of words, N, M and its checksum.
-use crate::drafts;
-use crate::drafts::Choice;
-use crate::drafts::Plan;
-use crate::drafts::Shape;
-use crate::lines;
 use crate::places;
 use crate::series;
+use crate::series::Ran;
+use testing::chance::Drawn;
+use testing::choices::Choice;
+use testing::drafts::Plan;
+use testing::drafts::Shape;
+use testing::lines;
 
 // N and M.
 const SIZES: [u64; 12] = [32, 31, 7, 5, 1, 0, 2, 1, 32, 0, 1, 31];
@@ -30,27 +31,18 @@ fn row(k: u64, x: u64) -> u64 {
     let told = steps(plan, x, k % 24 == 0);
     shape_name(k % 4);
     choice_name(k / 4 % 5);
-    lines::number(plan.n);
-    lines::number(plan.m);
-    lines::number(told.h);
+    lines::row(&[plan.n, plan.m, told.h]);
     lines::end();
     told.x
 }
 
-// The generator after a series, and its checksum.
-struct Told {
-    x: u64,
-    h: u64,
-}
-
 // The last basin is printed where asked for.
-fn steps(plan: Plan, x: u64, full: bool) -> Told {
-    let start = drafts::loaded(plan, x);
-    let ran = series::run(start.basin, start.x, 320);
+fn steps(plan: Plan, x: u64, full: bool) -> Drawn {
+    let ran = series::run(series::started(plan, x), 320);
     if full {
-        lines::basin(ran.basin);
+        places::print(ran.basin);
     }
-    Told { x: ran.x, h: ran.h }
+    Drawn { x: ran.x, h: ran.h }
 }
 
 // Where not all flows at once, the first step leaves stores above their limits, and the others are refused.
@@ -59,25 +51,28 @@ fn brimming(k: u64, x: u64) -> u64 {
     let told = brimming_steps(shape(k % 4), x, at_once);
     shape_name(k % 4);
     if at_once {
-        lines::word(b" at once");
+        lines::line(b" at once", &[told.h]);
     } else {
-        lines::word(b" brimming");
+        lines::line(b" brimming", &[told.h]);
     }
-    lines::number(told.h);
-    lines::end();
     told.x
 }
 
-fn brimming_steps(shape: Shape, x: u64, at_once: bool) -> Told {
+fn brimming_steps(shape: Shape, x: u64, at_once: bool) -> Drawn {
     let plan = Plan {
         choice: Choice::Most,
         shape,
         n: 32,
         m: 31,
     };
-    let start = drafts::loaded(plan, x);
-    let ran = series::run(places::brimming(start.basin, at_once), start.x, 80);
-    Told { x: ran.x, h: ran.h }
+    let start = series::started(plan, x);
+    let brim = Ran {
+        basin: places::brimming(start.basin, places::PLACES, at_once),
+        x: start.x,
+        h: 0,
+    };
+    let ran = series::run(brim, 80);
+    Drawn { x: ran.x, h: ran.h }
 }
 
 fn shape(k: u64) -> Shape {

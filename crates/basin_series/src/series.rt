@@ -1,11 +1,16 @@
 // A series of steps, each on the basin that the one before handed back, folded into a checksum.
-use crate::checksum;
 use crate::faults;
-use crate::lines;
 use crate::weather;
-use basin::network::Basin;
+use basin::state::Basin;
 use basin::step;
-use forcing::Line;
+use basin::step::Outcome;
+use basin_testing::checksum::fold_basin;
+use basin_testing::files::load;
+use forcing::list::Line;
+use testing::checksum;
+use testing::drafts;
+use testing::drafts::Plan;
+use testing::lines;
 
 // A series as far as it has come: the basin, the generator and the checksum.
 pub struct Ran {
@@ -14,8 +19,21 @@ pub struct Ran {
     pub h: u64,
 }
 
-pub fn run(basin: Basin, x: u64, count: u64) -> Ran {
-    let mut s = Ran { basin, x, h: 0 };
+// The basin of a drafted file.
+pub fn started(plan: Plan, x: u64) -> Ran {
+    let draft = drafts::good(plan, x);
+    let file = draft.file;
+    let loaded = load(file);
+    let basin = loaded.basin;
+    Ran {
+        basin,
+        x: draft.x,
+        h: 0,
+    }
+}
+
+pub fn run(start: Ran, count: u64) -> Ran {
+    let mut s = start;
     for i in 0..count {
         s = turn(s, i);
     }
@@ -25,20 +43,20 @@ pub fn run(basin: Basin, x: u64, count: u64) -> Ran {
 // Every 16th step is astray, and every 72nd is printed.
 fn turn(s: Ran, i: u64) -> Ran {
     let b = s.basin;
-    let sky = weather::drawn(weather::at_step(i), s.x);
+    let sky = weather::drawn(i, s.x);
     let lines = sky.lines;
     if i % 16 == 7 {
         return astray(b, lines, sky.x, s.h);
     }
     let given = step::step(b, lines, b.n);
     if i % 72 == 0 {
-        lines::step(i, given);
+        print(i, given);
     }
     let basin = given.basin;
     Ran {
         basin,
         x: sky.x,
-        h: checksum::fold_outcome(s.h, given),
+        h: fold(s.h, given),
     }
 }
 
@@ -51,6 +69,34 @@ fn astray(b: Basin, lines: [Line; 32], x: u64, h: u64) -> Ran {
     Ran {
         basin: b,
         x: faults::after(x),
-        h: checksum::fold_outcome(h, given),
+        h: fold(h, given),
     }
+}
+
+// Every number of an answer: number and place, the report, the basin.
+pub fn fold(h: u64, given: Outcome) -> u64 {
+    let basin = given.basin;
+    let told = checksum::fold_row(h, &[given.number, given.place]);
+    fold_basin(checksum::fold_row(told, &report_of(given)), basin)
+}
+
+// A step as the program prints it: document 01, "What the program prints".
+pub fn print(i: u64, given: Outcome) {
+    lines::first(i);
+    if given.number == 0 {
+        lines::line(b" ok", &report_of(given));
+    } else {
+        lines::line(b" refused", &[given.number, given.place]);
+    }
+}
+
+fn report_of(given: Outcome) -> [u64; 5] {
+    let report = given.report;
+    [
+        report.rain,
+        report.evapotranspiration,
+        report.outlet,
+        report.content,
+        report.estimated,
+    ]
 }

@@ -1,9 +1,11 @@
 -- Document 01, "The capacity curve", and its calls in "Who sent it".
-use Prim.Native.Nat.{ℕ, zero, suc, _-_, _*_, _/_, _%_}
 use mathlib.Core.Bool.{Bool, cond, _&&_}
+use Prim.Native.Nat.{ℕ, zero, suc, _+_, _-_, _*_, _/_, _%_, min}
 use lib.Dec.{leb, eqb}
+use Rattle.common.specs.Shares.{one}
+use Rattle.common.specs.Limits.{within}
+use Rattle.common.specs.Loops.{greatest}
 use Rattle.curve.specs.declared.capacity.Answer.{Answer}
-use Rattle.curve.specs.Shares.{one, within, greatest}
 
 -- "greatest whole r with r × r ≤ t × 65,536"; such an r is at most t × 65,536 itself
 unfoldable pub root : ℕ → ℕ
@@ -32,16 +34,20 @@ power t e =
     (whole t (e / 16)))))
 
 -- the share (m − a) × 65,536 / m
-unfoldable pub above : ℕ → ℕ → ℕ
-above m a = (m - a) * one / m
+unfoldable pub shareAbove : ℕ → ℕ → ℕ
+shareAbove m a = (m - a) * one / m
 
 -- Held(a) = c − c × Power((m − a) × 65,536 / m, e) / 65,536
 unfoldable pub held : ℕ → ℕ → ℕ → ℕ → ℕ
-held c m e a = c - c * power (above m a) e / one
+held c m e a = c - c * power (shareAbove m a) e / one
 
 -- Ordinate(w) is the greatest a with Held(a) ≤ w
 unfoldable pub ordinate : ℕ → ℕ → ℕ → ℕ → ℕ
 ordinate c m e w = greatest (λ a. leb (held c m e a) w) m
+
+-- "Held(min(Ordinate(w) + PE, m))": what is held once PE has come on top of w
+unfoldable pub rise : ℕ → ℕ → ℕ → ℕ → ℕ → ℕ
+rise c m e w pe = held c m e (min (ordinate c m e w + pe) m)
 
 -- an accepted call
 abbrev pub value : ℕ → Answer
@@ -52,15 +58,27 @@ abbrev pub refused : Answer
 refused = record { number = 10; place = 0; value = 0 }
 
 -- the calls: "t, e, a, w, c or m outside 0..65,536, 16..48, 0..m, 0..c, 1..500,000, 1..2,000,000"
+abbrev pub leastE : ℕ
+leastE = 16
+
+abbrev pub mostE : ℕ
+mostE = 48
+
+abbrev pub mostC : ℕ
+mostC = 500000
+
+abbrev pub mostM : ℕ
+mostM = 2000000
+
 unfoldable pub rootCall : ℕ → Answer
 rootCall t = cond (within 0 t one) (value (root t)) refused
 
 unfoldable pub powerCall : ℕ → ℕ → Answer
-powerCall t e = cond (within 0 t one && within 16 e 48) (value (power t e)) refused
+powerCall t e = cond (within 0 t one && within leastE e mostE) (value (power t e)) refused
 
 -- c, m and e inside their limits
 unfoldable pub curveIn : ℕ → ℕ → ℕ → Bool
-curveIn c m e = within 1 c 500000 && within 1 m 2000000 && within 16 e 48
+curveIn c m e = within 1 c mostC && within 1 m mostM && within leastE e mostE
 
 unfoldable pub heldCall : ℕ → ℕ → ℕ → ℕ → Answer
 heldCall c m e a = cond (curveIn c m e && within 0 a m) (value (held c m e a)) refused

@@ -1,10 +1,10 @@
 -- Document 01, "The store law", and the store call in "Who sent it".
-use Prim.Native.Nat.{ℕ, _+_, _-_, _*_, _/_, _^_}
 use mathlib.Core.Bool.{Bool, cond, _&&_}
+use Prim.Native.Nat.{ℕ, _+_, _-_, _*_, _/_, _^_}
 use lib.Dec.{leb}
+use Rattle.common.specs.Shares.{one}
 use Rattle.curve.specs.declared.store.Store.{Store}
 use Rattle.curve.specs.declared.store.Released.{Released}
-use Rattle.curve.specs.Shares.{one}
 
 -- O = (a × I + g × V) / 65,536
 unfoldable pub outflow : ℕ → ℕ → ℕ → ℕ → ℕ
@@ -14,9 +14,15 @@ outflow a g v i = (a * i + g * v) / one
 unfoldable pub content : ℕ → ℕ → ℕ → ℕ → ℕ
 content a g v i = v + i - outflow a g v i
 
--- a or g above 65,536, inflow above 2^62 or content above 2^56 are outside
+-- outside are "a or g above 65,536, inflow above 2^62 or content above 2^56"
+abbrev pub mostInflow : ℕ
+mostInflow = 2 ^ 62
+
+abbrev pub mostContent : ℕ
+mostContent = 2 ^ 56
+
 unfoldable pub storeIn : Store → ℕ → Bool
-storeIn s i = leb (s .a) one && leb (s .g) one && leb i (2 ^ 62) && leb (s .content) (2 ^ 56)
+storeIn s i = leb (s .a) one && leb (s .g) one && leb i mostInflow && leb (s .content) mostContent
 
 -- the store after its inflow, and its outflow
 abbrev pub released : Store → ℕ → Released

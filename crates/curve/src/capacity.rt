@@ -2,7 +2,10 @@
 ghost use mathlib.Core.Path.{_≡_};
 ghost use mathlib.Core.Bool.{not};
 ghost use Prim.Native.Nat.{_+_, _≤_, _<_};
-ghost use Rattle.curve.specs.Capacity.{root, curveIn, whole, part, power, held, ordinate, value, refused, rootCall, powerCall, heldCall, ordinateCall};
+ghost use Rattle.common.specs.Shares.{one};
+ghost use Rattle.curve.specs.Capacity.{root, whole, part, power, held, ordinate};
+ghost use Rattle.curve.specs.Capacity.{leastE, mostE, mostC, mostM, curveIn, value, refused, rootCall, powerCall, heldCall, ordinateCall};
+use common::shares::ONE;
 
 // What a call of the curve answers: number and place are 0 where it is accepted.
 pub struct Answer {
@@ -11,8 +14,7 @@ pub struct Answer {
     pub value: u64,
 }
 
-const ONE: u64 = 65536;
-
+// The limits of a curve call.
 const LEAST_E: u64 = 16;
 
 const MOST_E: u64 = 48;
@@ -21,6 +23,7 @@ const MOST_C: u64 = 500000;
 
 const MOST_M: u64 = 2000000;
 
+// The turns of an ordinate search that try a guess.
 const GUESSES: u64 = 8;
 
 // The greatest r with r * r <= t * 65,536.
@@ -122,8 +125,8 @@ fn outside(c: u64, m: u64, e: u64) -> bool
 
 // Newton's steps from above: the first guess is the mean of t and 65,536, and a guess whose square is too great goes down.
 fn root_of(t: u64) -> u64
-    requires { ⌜ t ≤ 65536 ⌝ }
-    ensures { λ r. ⌜ (r ≡ root t) × (r ≤ 65536) ⌝ }
+    requires { ⌜ t ≤ one ⌝ }
+    ensures { λ r. ⌜ (r ≡ root t) × (r ≤ one) ⌝ }
 {
     let n = t * ONE;
     let mut r = (ONE + t) / 2;
@@ -135,8 +138,8 @@ fn root_of(t: u64) -> u64
 
 // 65,536, k times multiplied by t and divided by 65,536.
 fn whole_of(t: u64, k: u64) -> u64
-    requires { ⌜ t ≤ 65536 ⌝ }
-    ensures { λ r. ⌜ (r ≡ whole t k) × (r ≤ 65536) ⌝ }
+    requires { ⌜ t ≤ one ⌝ }
+    ensures { λ r. ⌜ (r ≡ whole t k) × (r ≤ one) ⌝ }
 {
     let mut x = ONE;
     for _ in 0..k {
@@ -147,8 +150,8 @@ fn whole_of(t: u64, k: u64) -> u64
 
 // A root is taken only where a lower bit of e needs it.
 fn power_of(t: u64, e: u64) -> u64
-    requires { ⌜ t ≤ 65536 ⌝ }
-    ensures { λ r. ⌜ (r ≡ power t e) × (r ≤ 65536) ⌝ }
+    requires { ⌜ t ≤ one ⌝ }
+    ensures { λ r. ⌜ (r ≡ power t e) × (r ≤ one) ⌝ }
 {
     let x = whole_of(t, e / 16);
     if e % 16 == 0 {
@@ -174,8 +177,8 @@ fn power_of(t: u64, e: u64) -> u64
 
 // x times r over 65,536, where e mod 16 holds the bit b.
 fn part_of(e: u64, b: u64, r: u64, x: u64) -> u64
-    requires { ⌜ (0 < b) × (r ≤ 65536) × (x ≤ 65536) ⌝ }
-    ensures { λ y. ⌜ (y ≡ part e b r x) × (y ≤ 65536) ⌝ }
+    requires { ⌜ (0 < b) × (r ≤ one) × (x ≤ one) ⌝ }
+    ensures { λ y. ⌜ (y ≡ part e b r x) × (y ≤ one) ⌝ }
 {
     if e % 16 / b % 2 == 1 { x * r / ONE } else { x }
 }
@@ -188,8 +191,8 @@ struct Point {
 }
 
 fn point_at(c: u64, m: u64, e: u64, a: u64) -> Point
-    requires { ⌜ (c ≤ 500000) × (0 < m) × (m ≤ 2000000) × (a ≤ m) ⌝ }
-    ensures { λ r. ⌜ (r .held ≡ held c m e a) × (r .share ≤ 65536) × (r .power ≤ 65536) ⌝ }
+    requires { ⌜ (c ≤ mostC) × (0 < m) × (m ≤ mostM) × (a ≤ m) ⌝ }
+    ensures { λ r. ⌜ (r .held ≡ held c m e a) × (r .share ≤ one) × (r .power ≤ one) ⌝ }
 {
     let t = (m - a) * ONE / m;
     let p = power_of(t, e);
@@ -201,7 +204,7 @@ fn point_at(c: u64, m: u64, e: u64, a: u64) -> Point
 }
 
 fn held_of(c: u64, m: u64, e: u64, a: u64) -> u64
-    requires { ⌜ (c ≤ 500000) × (0 < m) × (m ≤ 2000000) × (a ≤ m) ⌝ }
+    requires { ⌜ (c ≤ mostC) × (0 < m) × (m ≤ mostM) × (a ≤ m) ⌝ }
     ensures { λ r. ⌜ r ≡ held c m e a ⌝ }
 {
     let p = point_at(c, m, e, a);
@@ -211,7 +214,7 @@ fn held_of(c: u64, m: u64, e: u64, a: u64) -> u64
 // The interval from lo to hi is narrowed: lo holds at most w, hi holds more. Where it is tried is a guess for the first turns
 // and then its middle; any point between lo and hi will do.
 fn ordinate_of(c: u64, m: u64, e: u64, w: u64) -> u64
-    requires { ⌜ (c ≤ 500000) × (0 < m) × (m ≤ 2000000) × (16 ≤ e) × (e ≤ 48) × (w ≤ c) ⌝ }
+    requires { ⌜ (c ≤ mostC) × (0 < m) × (m ≤ mostM) × (leastE ≤ e) × (e ≤ mostE) × (w ≤ c) ⌝ }
     ensures { λ r. ⌜ r ≡ ordinate c m e w ⌝ }
 {
     if w == c {
@@ -242,7 +245,7 @@ fn ordinate_of(c: u64, m: u64, e: u64, w: u64) -> u64
 
 // Newton's step on the power from the share t, as the last ordinate of the share that it comes to, or the one after t's own.
 fn guess(m: u64, e: u64, need: u64, t: u64, p: u64) -> u64
-    requires { ⌜ (m ≤ 2000000) × (16 ≤ e) × (e ≤ 48) × (need ≤ 65537) × (t ≤ 65536) × (p ≤ 65536) ⌝ }
+    requires { ⌜ (m ≤ mostM) × (leastE ≤ e) × (e ≤ mostE) × (need ≤ one + 1) × (t ≤ one) × (p ≤ one) ⌝ }
 {
     if p == 0 {
         return 0;
@@ -266,7 +269,7 @@ fn guess(m: u64, e: u64, need: u64, t: u64, p: u64) -> u64
 
 // The last ordinate above which the share is at least t.
 fn last_of(m: u64, t: u64) -> u64
-    requires { ⌜ (m ≤ 2000000) × (t ≤ 65536) ⌝ }
+    requires { ⌜ (m ≤ mostM) × (t ≤ one) ⌝ }
     ensures { λ r. ⌜ r ≤ m ⌝ }
 {
     m - (t * m + (ONE - 1)) / ONE
@@ -274,7 +277,7 @@ fn last_of(m: u64, t: u64) -> u64
 
 // The guess where it lies between lo and hi, while there are turns for it, and else their middle.
 fn between(lo: u64, hi: u64, guessed: u64, turns: u64) -> u64
-    requires { ⌜ (lo + 1 < hi) × (hi ≤ 2000000) ⌝ }
+    requires { ⌜ (lo + 1 < hi) × (hi ≤ mostM) ⌝ }
     ensures { λ r. ⌜ (lo < r) × (r < hi) ⌝ }
 {
     if turns == 0 {

@@ -1,7 +1,9 @@
 // The store law: document 01, "The store law". One store serves interflow, ground water, channel and reach.
 ghost use mathlib.Core.Path.{_≡_};
-ghost use Prim.Native.Nat.{_+_, _≤_, _^_};
-ghost use Rattle.curve.specs.Store.{outflow, kept, storeCall};
+ghost use Prim.Native.Nat.{_+_, _≤_};
+ghost use Rattle.common.specs.Shares.{one};
+ghost use Rattle.curve.specs.Store.{outflow, mostInflow, mostContent, kept, storeCall};
+use common::shares::ONE;
 
 // The shares a of the inflow and g of the content, in parts of 65,536; the content in µm or m³.
 pub struct Store {
@@ -18,11 +20,10 @@ pub struct Released {
     pub outflow: u64,
 }
 
-const ONE: u64 = 65536;
-
+// The limits of a store call.
 const MOST_INFLOW: u64 = 4611686018427387904; // 2^62
 
-const MOST_CONTENT: u64 = 72057594037927936; // 2^56
+pub const MOST_CONTENT: u64 = 72057594037927936; // 2^56
 
 impl Store {
     // Takes the inflow, and hands back the store and its outflow.
@@ -55,7 +56,7 @@ impl Store {
 // (a * i + g * v) / 65,536. The sum may pass 64 bits, so i and v are parted at 16 bits and the low products are
 // divided together.
 fn outflow_of(a: u64, g: u64, v: u64, i: u64) -> u64
-    requires { ⌜ (a ≤ 65536) × (g ≤ 65536) × (v ≤ 2 ^ 56) × (i ≤ 2 ^ 62) ⌝ }
+    requires { ⌜ (a ≤ one) × (g ≤ one) × (v ≤ mostContent) × (i ≤ mostInflow) ⌝ }
     ensures { λ r. ⌜ (r ≡ outflow a g v i) × (r ≤ v + i) ⌝ }
 {
     let low_i = a * (i % ONE);

@@ -1,13 +1,11 @@
-// The root and Power of every t from 0 to 65,537, one beyond the limit: a checksum for the roots
-// and one for each e.
-use crate::checksum;
-use crate::lines;
-use curve::capacity;
+// The root and Power of every t from 0 to 65,537, one beyond the limit: a checksum for the roots and one for each e.
+use crate::calls;
+use crate::calls::Call;
+use testing::lines;
 
 pub fn shares() {
-    lines::word(b"every root");
-    lines::number(roots());
-    lines::end();
+    let h = folded(Call::Root, 0);
+    lines::line(b"every root", &[h]);
     at_exponent(15);
     at_exponent(16);
     at_exponent(17);
@@ -22,24 +20,14 @@ pub fn shares() {
 }
 
 fn at_exponent(e: u64) {
-    lines::word(b"every power");
-    lines::number(e);
-    lines::number(powers(e));
-    lines::end();
+    let h = folded(Call::Power, e);
+    lines::line(b"every power", &[e, h]);
 }
 
-fn roots() -> u64 {
+fn folded(call: Call, e: u64) -> u64 {
     let mut h = 0;
     for t in 0..65538 {
-        h = checksum::fold_answer(h, capacity::root(t));
-    }
-    h
-}
-
-fn powers(e: u64) -> u64 {
-    let mut h = 0;
-    for t in 0..65538 {
-        h = checksum::fold_answer(h, capacity::power(t, e));
+        h = calls::fold(h, call, [t, e, 0, 0]);
     }
     h
 }

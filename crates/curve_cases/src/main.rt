@@ -1,12 +1,9 @@
-// The calls of `curve`: on document 01's examples, on every share, at both ends of every limit and
-// one beyond, and in long random series. What it must print comes from the second model:
-// `model expect curve_cases`.
+// The calls of `curve`: on document 01's examples, on every share, at both ends of every limit and one beyond, and in long random
+// series. What it must print comes from the second model: `model expect curve_cases`.
 mod calls;
-mod checksum;
 mod every;
 mod examples;
 mod limits;
-mod lines;
 mod random;
 
 use calls::Call;

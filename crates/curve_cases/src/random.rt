@@ -1,27 +1,20 @@
-// Random series of calls, folded into a checksum for each series; every 2,500th call is printed in
-// full before its series' checksum. The generator is x := x × 48,271 mod 2,147,483,647.
+// Random series of calls, folded into a checksum for each series; every 2,500th call is printed in full before its series' checksum.
 ghost use Prim.Native.Nat.{_≤_};
+use crate::calls;
 use crate::calls::Call;
-use crate::checksum;
-use crate::lines;
-use curve::capacity;
-use curve::store::Store;
-
-// A series as far as it has come: the generator and the checksum.
-pub struct Drawn {
-    pub x: u64,
-    pub h: u64,
-}
+use testing::chance::Drawn;
+use testing::chance::next;
+use testing::lines;
 
 pub fn series(call: Call) {
-    let h = calls(call);
+    let h = folded(call);
     lines::word(b"series ");
-    lines::name(call);
+    calls::name(call);
     lines::number(h);
     lines::end();
 }
 
-fn calls(call: Call) -> u64 {
+fn folded(call: Call) -> u64 {
     let mut s = Drawn { x: 1, h: 0 };
     for i in 0u64..100000 {
         s = turn(call, s, i % 2500 == 0);
@@ -29,130 +22,68 @@ fn calls(call: Call) -> u64 {
     s.h
 }
 
-fn next(x: u64) -> u64 {
-    x % 2147483647 * 48271 % 2147483647
-}
-
 fn turn(call: Call, s: Drawn, shown: bool) -> Drawn {
-    match call {
-        Call::Root => root(s, shown),
-        Call::Power => power(s, shown),
-        Call::Held => held(s, shown),
-        Call::Ordinate => ordinate(s, shown),
-        Call::Store => store(s, shown),
-    }
-}
-
-fn root(s: Drawn, shown: bool) -> Drawn {
-    let x = next(s.x);
-    let t = x % 66000;
+    let draws = eight(s.x);
+    let v = arguments(call, draws);
     if shown {
-        lines::root(t);
+        calls::print(call, v);
     }
     Drawn {
-        x,
-        h: checksum::fold_answer(s.h, capacity::root(t)),
+        x: last(call, draws),
+        h: calls::fold(s.h, call, v),
     }
 }
 
-fn power(s: Drawn, shown: bool) -> Drawn {
-    let x1 = next(s.x);
-    let x2 = next(x1);
-    let t = x1 % 66000;
-    let e = 15 + x2 % 35;
-    if shown {
-        lines::power(t, e);
-    }
-    Drawn {
-        x: x2,
-        h: checksum::fold_answer(s.h, capacity::power(t, e)),
-    }
-}
-
-fn held(s: Drawn, shown: bool) -> Drawn {
-    let x1 = next(s.x);
-    let x2 = next(x1);
-    let x3 = next(x2);
-    let x4 = next(x3);
-    let x5 = next(x4);
-    let x6 = next(x5);
-    let c = mean_capacity(x1, x2);
-    let m = point_capacity(x3, x4);
-    let e = 15 + x5 % 35;
-    let a = x6 % (m + 2);
-    if shown {
-        lines::held(c, m, e, a);
-    }
-    Drawn {
-        x: x6,
-        h: checksum::fold_answer(s.h, capacity::held(c, m, e, a)),
-    }
-}
-
-fn ordinate(s: Drawn, shown: bool) -> Drawn {
-    let x1 = next(s.x);
-    let x2 = next(x1);
-    let x3 = next(x2);
-    let x4 = next(x3);
-    let x5 = next(x4);
-    let x6 = next(x5);
-    let c = mean_capacity(x1, x2);
-    let m = point_capacity(x3, x4);
-    let e = 15 + x5 % 35;
-    let w = x6 % (c + 2);
-    if shown {
-        lines::ordinate(c, m, e, w);
-    }
-    Drawn {
-        x: x6,
-        h: checksum::fold_answer(s.h, capacity::ordinate(c, m, e, w)),
-    }
-}
-
-fn store(s: Drawn, shown: bool) -> Drawn {
-    let x1 = next(s.x);
+fn eight(x: u64) -> [u64; 8] {
+    let x1 = next(x);
     let x2 = next(x1);
     let x3 = next(x2);
     let x4 = next(x3);
     let x5 = next(x4);
     let x6 = next(x5);
     let x7 = next(x6);
-    let x8 = next(x7);
-    let a = x1 % 66000;
-    let g = x2 % 66000;
-    let content = wide(x3, x4) >> (x5 % 60);
-    let inflow = (wide(x6, x7) * 2) >> (x8 % 60);
-    if shown {
-        lines::store(a, g, content, inflow);
-    }
-    let before = Store { a, g, content };
-    Drawn {
-        x: x8,
-        h: checksum::fold_released(s.h, before.take(inflow)),
+    [x1, x2, x3, x4, x5, x6, x7, next(x7)]
+}
+
+// The last of the draws that a call uses.
+fn last(call: Call, x: [u64; 8]) -> u64 {
+    match call {
+        Call::Root => x[0],
+        Call::Power => x[1],
+        Call::Held | Call::Ordinate => x[5],
+        Call::Store => x[7],
     }
 }
 
-// c of one of four sizes, up to one beyond its limit.
-fn mean_capacity(size: u64, x: u64) -> u64
-    ensures { λ r. ⌜ r ≤ 500001 ⌝ }
-{
-    match size % 4 {
-        0 => x % 20,
-        1 => x % 1000,
-        2 => x % 66000,
-        _ => x % 500002,
+fn arguments(call: Call, x: [u64; 8]) -> [u64; 4] {
+    let t = x[0] % 66000;
+    let c = sized(x[0], x[1], x[1] % 500002);
+    let m = sized(x[2], x[3], x[3] % 2000002);
+    let e = 15 + x[4] % 35;
+    match call {
+        Call::Root => [t, 0, 0, 0],
+        Call::Power => [t, 15 + x[1] % 35, 0, 0],
+        Call::Held => [c, m, e, x[5] % (m + 2)],
+        Call::Ordinate => [c, m, e, x[5] % (c + 2)],
+        Call::Store => [
+            t,
+            x[1] % 66000,
+            wide(x[2], x[3]) >> (x[4] % 60),
+            (wide(x[5], x[6]) * 2) >> (x[7] % 60),
+        ],
     }
 }
 
-// m of one of four sizes, up to one beyond its limit.
-fn point_capacity(size: u64, x: u64) -> u64
+// A capacity of one of four sizes, the largest up to one beyond its limit.
+fn sized(size: u64, x: u64, largest: u64) -> u64
+    requires { ⌜ largest ≤ 2000001 ⌝ }
     ensures { λ r. ⌜ r ≤ 2000001 ⌝ }
 {
     match size % 4 {
         0 => x % 20,
         1 => x % 1000,
         2 => x % 66000,
-        _ => x % 2000002,
+        _ => largest,
     }
 }
 

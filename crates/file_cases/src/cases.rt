@@ -1,10 +1,12 @@
 // Files chosen by number: lengths, N and M, every word at the edges of its range, and reaches.
-use crate::drafts;
-use crate::drafts::Choice;
-use crate::files;
-use crate::lines;
+use crate::series;
 use crate::series::State;
 use crate::series::loaded;
+use testing::choices::Choice;
+use testing::files;
+use testing::files::File;
+use testing::lines;
+use testing::ranges;
 
 // N and M: both ends of their ranges and one beyond, and the same in the other bytes of the word.
 const COUNTS: [u64; 12] = [
@@ -39,7 +41,7 @@ const SHARES: [u64; 10] = [
 pub fn good(choice: Choice, s: State, i: u64) -> State {
     let n = 1 + i / 32 % 32;
     let m = i % 32;
-    let draft = drafts::good(choice, n, m, s.x);
+    let draft = series::good(choice, n, m, s.x);
     let file = draft.file;
     let size = 4 * files::words(n, m);
     let s0 = State {
@@ -53,10 +55,7 @@ pub fn good(choice: Choice, s: State, i: u64) -> State {
     let s4 = loaded(s3, files::sized(file, size + 1), false);
     let s5 = loaded(s4, files::sized(file, size + 4), false);
     if m == 31 {
-        lines::word(b"good");
-        lines::number(n);
-        lines::number(s5.h);
-        lines::end();
+        lines::line(b"good", &[n, s5.h]);
     }
     s5
 }
@@ -95,10 +94,10 @@ pub fn counts(s: State, i: u64) -> State {
 
 fn size_of(n: u64, m: u64) -> usize {
     if 32 < n {
-        return 3324;
+        return 4 * files::words(32, 31);
     }
     if 31 < m {
-        return 3324;
+        return 4 * files::words(32, 31);
     }
     4 * files::words(n, m)
 }
@@ -122,18 +121,26 @@ pub fn word(s: State, i: u64, shown: bool) -> State {
 
 fn edge(s: State, at: usize, which: u64, shown: bool) -> State {
     let file = s.file;
-    let v = files::edge(file, at, which);
-    loaded(s, files::with(file, at, v), shown)
+    loaded(s, edged(file, at, which), shown)
+}
+
+// The file with a word at an edge of its range.
+pub fn edged(file: File, at: usize, which: u64) -> File {
+    let bytes = file.bytes;
+    let spot = files::spot_of(files::word(&bytes, 0), at);
+    let range = files::range_of(&bytes, at, spot, files::word(&bytes, 1));
+    files::with(file, at, ranges::edge(range, which))
 }
 
 pub fn shares(s: State, i: u64) -> State {
     let c0 = SHARES[(i % 10) as usize];
     let c1 = SHARES[(i / 10 % 10) as usize];
     let file = s.file;
+    let at = files::words(2, 1);
     lines::word(b"shares");
     lines::number(c0);
     lines::number(c1);
-    let after = loaded(s, files::with(files::with(file, 51, c0), 52, c1), true);
+    let after = loaded(s, files::with(files::with(file, at, c0), at + 1, c1), true);
     lines::end();
     after
 }
@@ -147,7 +154,7 @@ pub fn nexts(s: State, i: u64) -> State {
         lines::word(b"next");
         lines::number(reach + 1);
     }
-    let after = loaded(s, files::with(file, (27 + 3 * reach) as usize, v), true);
+    let after = loaded(s, files::with(file, files::words(1, reach) + 2, v), true);
     if v == 32 {
         lines::end();
     }

@@ -1,18 +1,19 @@
 // Good files, damaged at random.
-use crate::drafts;
-use crate::drafts::Choice;
-use crate::drafts::next;
-use crate::files;
-use crate::files::File;
-use crate::lines;
+use crate::cases;
+use crate::series;
 use crate::series::State;
 use crate::series::loaded;
+use testing::chance::next;
+use testing::choices::Choice;
+use testing::files;
+use testing::files::File;
+use testing::lines;
 
 // A good file with N and M drawn too.
 fn drawn(s: State) -> State {
     let x1 = next(s.x);
     let x2 = next(x1);
-    let draft = drafts::good(Choice::Any, 1 + x1 % 32, x2 % 32, x2);
+    let draft = series::good(Choice::Any, 1 + x1 % 32, x2 % 32, x2);
     let file = draft.file;
     State {
         file,
@@ -44,7 +45,7 @@ fn outside(s: State, shown: bool) -> State {
     if words < 3 {
         return s;
     }
-    let at = 2 + x1 as usize % (words - 2) % 832;
+    let at = 2 + x1 as usize % (words - 2) % files::BYTES;
     let which = match x2 % 3 {
         0 => 0,
         1 => 3,
@@ -54,7 +55,7 @@ fn outside(s: State, shown: bool) -> State {
         lines::number(at as u64);
     }
     State {
-        file: files::with(file, at, files::edge(file, at, which)),
+        file: cases::edged(file, at, which),
         x: x2,
         h: s.h,
     }
@@ -68,7 +69,7 @@ pub fn byte(s: State, i: u64) -> State {
     let file = s1.file;
     let size = file.size;
     let mut bytes = file.bytes;
-    let at = x1 as usize % (size % 4096 + 1) % 3328;
+    let at = x1 as usize % (size % 4096 + 1) % files::BYTES;
     bytes[at] = (x2 % 256) as u8;
     if shown {
         lines::word(b"byte");

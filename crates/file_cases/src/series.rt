@@ -1,12 +1,16 @@
 // Series of loads, folded into a checksum for each.
 use crate::cases;
-use crate::checksum;
 use crate::damage;
-use crate::drafts;
-use crate::drafts::Choice;
-use crate::files;
-use crate::files::File;
-use crate::lines;
+use basin_testing::checksum::fold_basin;
+use basin_testing::files::load;
+use testing::checksum;
+use testing::choices::Choice;
+use testing::drafts;
+use testing::drafts::Draft;
+use testing::drafts::Plan;
+use testing::drafts::Shape;
+use testing::files::File;
+use testing::lines;
 
 pub enum Part {
     // Good files of every N and M, and each a byte and a word too short and too long.
@@ -37,14 +41,21 @@ pub struct State {
 }
 
 pub fn run(name: &[u8], part: Part, choice: Choice, n: u64, m: u64, count: u64) {
-    let start = drafts::good(choice, n, m, 1);
+    let start = good(choice, n, m, 1);
     let file = start.file;
     let s = loads(part, choice, file, count);
-    lines::word(name);
-    lines::number(n);
-    lines::number(m);
-    lines::number(s.h);
-    lines::end();
+    lines::line(name, &[n, m, s.h]);
+}
+
+// A good file.
+pub fn good(choice: Choice, n: u64, m: u64, x: u64) -> Draft {
+    let plan = Plan {
+        choice,
+        shape: Shape::Chosen,
+        n,
+        m,
+    };
+    drafts::good(plan, x)
 }
 
 fn loads(part: Part, choice: Choice, file: File, count: u64) -> State {
@@ -71,15 +82,16 @@ fn turn(part: Part, choice: Choice, s: State, i: u64) -> State {
 
 // One more load, its number and place printed where asked for; the series' own file stays.
 pub fn loaded(s: State, file: File, shown: bool) -> State {
-    let given = files::answer(file);
+    let given = load(file);
+    let basin = given.basin;
+    let told = [given.number, given.place];
     if shown {
-        lines::number(given.number);
-        lines::number(given.place);
+        lines::row(&told);
     }
     let base = s.file;
     State {
         file: base,
         x: s.x,
-        h: checksum::fold_loaded(s.h, given),
+        h: fold_basin(checksum::fold_row(s.h, &told), basin),
     }
 }

@@ -1,8 +1,2 @@
--- The laws that other crates cite, and those that the proofs of this crate share.
-pub mod Laws
-pub mod Examples
-mod Fractions
-mod Values
-mod Lines
-mod Lists
-mod Search
+-- Worked examples over the definitions. The laws stand with their module, in the folder of its name.
+pub mod Cases

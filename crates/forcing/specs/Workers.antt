@@ -2,10 +2,12 @@
 use mathlib.Core.Bool.{cond}
 use Prim.Native.Nat.{ℕ, _≤_, _<_}
 use lib.Dec.{eqb}
-use Rattle.forcing.specs.declared.Line.{Line}
-use Rattle.forcing.specs.declared.Depth.{Depth}
-use Rattle.forcing.specs.declared.Judged.{Judged}
-use Rattle.forcing.specs.Forcing.{nearest, above, answerBy, lineNumber, rainOf, panOf, estimatedOf}
+use Rattle.common.specs.Weather.{calm}
+use Rattle.forcing.specs.declared.depth.Depth.{Depth}
+use Rattle.forcing.specs.declared.list.Line.{Line}
+use Rattle.forcing.specs.declared.list.Judged.{Judged}
+use Rattle.forcing.specs.Depth.{nearest, aboveLimit, answerBy}
+use Rattle.forcing.specs.List.{lineNumber, weatherOf, estimatedOf}
 
 -- a significand of at most 24 binary digits, over 2^14 or more, and a limit of 1..1,000 mm
 pub record Scaled (significand places limit : ℕ) : Type 0 where
@@ -16,15 +18,15 @@ pub record Scaled (significand places limit : ℕ) : Type 0 where
 
 -- what judging and rounding make of the value a / b
 abbrev pub ofFraction : ℕ → ℕ → ℕ → Depth
-ofFraction limit a b = answerBy (cond (above limit a b) 8 0) (nearest a b)
+ofFraction limit a b = answerBy (cond (aboveLimit limit a b) 8 0) (nearest a b)
 
 -- a bad line has its number alone
 abbrev pub badLine : ℕ → Judged
-badLine number = record { number = number; rain = 0; pan = 0; estimated = 0 }
+badLine number = record { number = number; weather = calm; estimated = 0 }
 
--- any other has its depths and its mark
+-- any other has its weather and its mark
 abbrev pub goodLine : Line → Judged
-goodLine l = record { number = 0; rain = rainOf l; pan = panOf l; estimated = estimatedOf (l .rain) }
+goodLine l = record { number = 0; weather = weatherOf l; estimated = estimatedOf (l .rain) }
 
 unfoldable pub judgedLine : Line → Judged
 judgedLine l = cond (eqb (lineNumber l) 0) (goodLine l) (badLine (lineNumber l))

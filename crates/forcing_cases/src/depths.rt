@@ -1,8 +1,11 @@
 // The depth call on chosen numbers, printed, and on long series of them, folded into a checksum for each.
-use crate::checksum;
-use crate::lines;
 use crate::numbers;
-use forcing::Gauge;
+use forcing::depth;
+use forcing::depth::Gauge;
+use testing::chance::Drawn;
+use testing::chance::next;
+use testing::checksum;
+use testing::lines;
 
 // Zeros, the least normals, infinities, a NaN, both limits, powers of 2, and the examples of document 01 and of a half.
 const CENTRES: [u64; 20] = [
@@ -64,18 +67,19 @@ pub enum Part {
     Near,
 }
 
-// A series as far as it has come: the generator and the checksum.
-pub struct Drawn {
-    pub x: u64,
-    pub h: u64,
-}
-
 pub fn series(part: Part, said: Gauge, count: u64) {
     let s = calls(part, said, count);
-    lines::gauge(said);
+    gauge(said);
     name(part);
     lines::number(s.h);
     lines::end();
+}
+
+fn gauge(said: Gauge) {
+    match said {
+        Gauge::Rain => lines::word(b"rain"),
+        Gauge::Pan => lines::word(b"pan"),
+    }
 }
 
 fn name(part: Part) {
@@ -98,8 +102,8 @@ fn calls(part: Part, said: Gauge, count: u64) -> Drawn {
 }
 
 fn turn(part: Part, said: Gauge, s: Drawn, i: u64) -> Drawn {
-    let x1 = numbers::next(s.x);
-    let x2 = numbers::next(x1);
+    let x1 = next(s.x);
+    let x2 = next(x1);
     let pattern = match part {
         Part::Centres => numbers::beside(CENTRES[(i / 3 % 20) as usize], i),
         Part::Halves => numbers::around_half(HALVES[(i / 3 % 20) as usize], i),
@@ -108,13 +112,17 @@ fn turn(part: Part, said: Gauge, s: Drawn, i: u64) -> Drawn {
         Part::Any => numbers::any(x1, x2),
         Part::Near => numbers::near(x1, x2),
     };
+    let given = depth::depth_of(numbers::number(pattern), said);
+    let row = [given.number, given.place, given.depth];
     if shown(part, i) {
-        lines::depth(said, pattern);
+        gauge(said);
+        lines::number(pattern);
+        lines::row(&row);
+        lines::end();
     }
-    let given = forcing::depth_of(numbers::number(pattern), said);
     Drawn {
         x: x2,
-        h: checksum::fold_depth(s.h, given),
+        h: checksum::fold_row(s.h, &row),
     }
 }
 

@@ -1,14 +1,12 @@
 // The calls of `forcing`: depths on both sides of every half of a µm, at the limits and of every exponent, and the reading of lines
 // with a fault at every place. What it must print comes from the second model: `model expect forcing_cases`.
-mod checksum;
 mod depths;
-mod lines;
 mod numbers;
 mod readings;
 mod reads;
 
 use depths::Part;
-use forcing::Gauge;
+use forcing::depth::Gauge;
 use reads::Part as Read;
 
 fn main() {

@@ -1,17 +1,15 @@
-// Single-precision numbers by their 32 bits, and those that are drawn by x := x × 48,271 mod 2,147,483,647.
+// Single-precision numbers by their 32 bits, and those that are drawn.
 ghost use Prim.Native.Nat.{_≤_};
+use forcing::file;
 
-// The number of a pattern. `f32::from_bits` asks that the pattern is no NaN's; those all give one NaN.
+// The number of a pattern, as the forcing file has it.
 pub fn number(pattern: u64) -> f32 {
-    let bits = (pattern % 4294967296) as u32;
-    if 0x7f80_0000 < bits % 0x8000_0000 {
-        return 0.0 / 0.0;
-    }
-    f32::from_bits(bits)
+    let line = file::line_of(0, 0, bits(pattern));
+    line.pan
 }
 
-pub fn next(x: u64) -> u64 {
-    x % 2147483647 * 48271 % 2147483647
+pub fn bits(pattern: u64) -> u32 {
+    (pattern % 4294967296) as u32
 }
 
 // Any pattern.

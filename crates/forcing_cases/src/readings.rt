@@ -1,7 +1,8 @@
 // Forcing lines: good ones, all different, and bad ones.
 use crate::numbers;
-use forcing::Line;
-use forcing::Reading;
+use forcing::file;
+use forcing::list::Line;
+use testing::chance::next;
 
 const ONE: u64 = 0x3f80_0000;
 
@@ -29,16 +30,7 @@ const ABOVE_PAN: u64 = 0x42c8_0001;
 
 // Kind (1 measured, 2 estimated, other missing), rain and pan as patterns.
 fn line(kind: u64, rain: u64, pan: u64) -> Line {
-    let depth = numbers::number(rain);
-    let reading = match kind {
-        1 => Reading::Measured(depth),
-        2 => Reading::Estimated(depth),
-        _ => Reading::Missing,
-    };
-    Line {
-        rain: reading,
-        pan: numbers::number(pan),
-    }
+    file::line_of(numbers::bits(kind), numbers::bits(rain), numbers::bits(pan))
 }
 
 // Lines by number: bad rain, bad pan, both, and the last two good.
@@ -97,9 +89,9 @@ pub fn made(source: Source, x: u64) -> Batch {
 
 fn turn(s: Batch, source: Source, k: usize) -> Batch {
     let mut lines = s.lines;
-    let x1 = numbers::next(s.x);
-    let x2 = numbers::next(x1);
-    let x3 = numbers::next(x2);
+    let x1 = next(s.x);
+    let x2 = next(x1);
+    let x3 = next(x2);
     let line = match source {
         Source::Good => good(k as u64 % 32),
         Source::Any => any(x1, x2, x3),

@@ -1,11 +1,13 @@
 // The reading of a step's lines: with a fault at every place, with two, with every count, and in a random series.
-use crate::checksum;
-use crate::lines;
-use crate::numbers;
 use crate::readings;
 use crate::readings::Source;
-use forcing::Forcing;
-use forcing::Line;
+use forcing::list;
+use forcing::list::Forcing;
+use forcing::list::Line;
+use testing::chance::Drawn;
+use testing::chance::next;
+use testing::checksum;
+use testing::lines;
 
 // N and counts.
 const COUNTS: [u64; 10] = [
@@ -31,17 +33,9 @@ pub enum Part {
     Any,
 }
 
-// A series as far as it has come: the generator and the checksum.
-pub struct Drawn {
-    pub x: u64,
-    pub h: u64,
-}
-
 pub fn series(name: &[u8], part: Part, count: u64) {
     let s = reads(part, count);
-    lines::word(name);
-    lines::number(s.h);
-    lines::end();
+    lines::line(name, &[s.h]);
 }
 
 fn reads(part: Part, count: u64) -> Drawn {
@@ -83,23 +77,23 @@ fn good() -> [Line; 32] {
 // Line f of the table at a place, N and count at 32, up to the place and just before it.
 fn fault(s: Drawn, f: u64, at: u64) -> Drawn {
     let with_fault = with(good(), at, readings::chosen(f));
-    let whole = forcing::read(with_fault, 32, 32);
+    let whole = list::read(with_fault, 32, 32);
     let place = at % 32;
-    let last = forcing::read(with_fault, place + 1, place + 1);
-    let past = forcing::read(with_fault, place, place);
+    let last = list::read(with_fault, place + 1, place + 1);
+    let past = list::read(with_fault, place, place);
     if at % 10 == 1 {
         lines::word(b"fault");
         lines::number(f);
         lines::number(at);
-        lines::told(whole);
-        lines::told(last);
-        lines::told(past);
+        told(whole);
+        told(last);
+        told(past);
         lines::end();
     }
-    let h = checksum::fold_forcing(s.h, whole);
+    let h = fold(s.h, whole);
     Drawn {
         x: s.x,
-        h: checksum::fold_forcing(checksum::fold_forcing(h, last), past),
+        h: fold(fold(h, last), past),
     }
 }
 
@@ -108,50 +102,72 @@ fn pair(s: Drawn, f: u64, g: u64, at: u64) -> Drawn {
     let both = with(first, (at % 32 + 7) % 32, readings::chosen(g));
     Drawn {
         x: s.x,
-        h: checksum::fold_forcing(s.h, forcing::read(both, 32, 32)),
+        h: fold(s.h, list::read(both, 32, 32)),
     }
 }
 
 fn counts(s: Drawn, n: u64, count: u64, missing: u64) -> Drawn {
     let at = if missing == 0 { 32 } else { 1 };
-    let given = forcing::read(with(good(), at, readings::chosen(0)), count, n);
+    let given = list::read(with(good(), at, readings::chosen(0)), count, n);
     lines::word(b"count");
     lines::number(n);
     lines::number(count);
-    lines::told(given);
+    told(given);
     lines::end();
     Drawn {
         x: s.x,
-        h: checksum::fold_forcing(s.h, given),
+        h: fold(s.h, given),
     }
 }
 
 // N from 0 to 33, and one count of 16 is drawn too.
 fn any(s: Drawn, shown: bool) -> Drawn {
-    let x1 = numbers::next(s.x);
-    let x2 = numbers::next(x1);
+    let x1 = next(s.x);
+    let x2 = next(x1);
     let made = readings::made(Source::Any, x2);
     let n = x1 % 34;
     let count = if x2 % 16 == 0 { x2 / 16 % 40 } else { n };
     let drawn = made.lines;
-    let given = forcing::read(drawn, count, n);
+    let given = list::read(drawn, count, n);
     if shown {
         print(n, count, given);
     }
     Drawn {
         x: made.x,
-        h: checksum::fold_forcing(s.h, given),
+        h: fold(s.h, given),
     }
 }
 
 fn print(n: u64, count: u64, given: Forcing) {
-    let rain = given.rain;
-    let pan = given.pan;
+    let depths = depths_of(given);
     lines::word(b"read");
     lines::number(n);
     lines::number(count);
-    lines::told(given);
-    lines::row(&rain);
-    lines::row(&pan);
+    told(given);
+    lines::row(&depths);
     lines::end();
+}
+
+// The answer of a reading but for its weather.
+fn told(given: Forcing) {
+    lines::row(&[given.number, given.place, given.estimated]);
+}
+
+// Every number of the answer.
+fn fold(h: u64, given: Forcing) -> u64 {
+    let depths = depths_of(given);
+    let told = checksum::fold_row(h, &[given.number, given.place, given.estimated]);
+    checksum::fold_row(told, &depths)
+}
+
+// Rain of all lines, then pan.
+fn depths_of(given: Forcing) -> [u64; 64] {
+    let weather = given.weather;
+    let mut depths = [0u64; 64];
+    for i in 0..32 {
+        let here = weather[i];
+        depths[i] = here.rain;
+        depths[i + 32] = here.pan;
+    }
+    depths
 }

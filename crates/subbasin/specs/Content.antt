@@ -1,15 +1,13 @@
--- A sub-basin's share of the content: document 01, "The store law".
+-- What a sub-basin holds: document 01, "The store law".
 use Prim.Native.Nat.{ℕ, _+_, _*_}
-use mathlib.Core.List.{List, [], _∷_}
+use Rattle.common.specs.Amounts.{sum}
+use Rattle.subbasin.specs.declared.record.Contents.{Contents}
 use Rattle.subbasin.specs.declared.record.SubBasin.{SubBasin}
 
-unfoldable pub sum : List ℕ → ℕ
-sum [] = 0
-sum (x ∷ xs) = x + sum xs
+-- "WU + WL + WD + G + VI + VG"
+abbrev pub waterDepth : Contents → ℕ
+waterDepth w = w .wu + w .wl + w .wd + w .g + w .vi + w .vg
 
--- "area × (WU + WL + WD + G + VI + VG)" plus "all waiting amounts, CS stores", in m³
+-- area × waterDepth "plus all waiting amounts, CS stores", in m³
 unfoldable pub water : SubBasin → ℕ
-water s =
-    s .fixed .area * (s .contents .wu + s .contents .wl + s .contents .wd + s .contents .g + s .contents .vi + s .contents .vg)
-    + sum (s .line .waiting)
-    + s .channel
+water s = s .fixed .area * waterDepth (s .contents) + sum (s .line .waiting) + s .channel

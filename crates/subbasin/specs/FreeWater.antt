@@ -2,8 +2,8 @@
 use Prim.Native.Nat.{ℕ, _+_, _-_, _*_, _/_, min}
 use mathlib.Core.Bool.{cond}
 use lib.Dec.{ltb}
-use Rattle.curve.specs.Shares.{one}
-use Rattle.curve.specs.Capacity.{held, ordinate}
+use Rattle.common.specs.Shares.{one}
+use Rattle.curve.specs.Capacity.{rise}
 use Rattle.subbasin.specs.declared.record.Parameters.{Parameters}
 use Rattle.subbasin.specs.declared.free_water.Parted.{Parted}
 
@@ -15,13 +15,9 @@ ms p = p .sm * p .xn / 16
 unfoldable pub level : Parameters → ℕ → ℕ → ℕ → ℕ
 level p g pe r = min (p .sm) (g * pe / r)
 
--- "S2 = Held(min(Ordinate(S) + PE, MS))"
-unfoldable pub raised : Parameters → ℕ → ℕ → ℕ
-raised p s pe = held (p .sm) (ms p) (p .xn) (min (ordinate (p .sm) (ms p) (p .xn) s + pe) (ms p))
-
--- "R > 0: keep = min(G + R, S2 × R / PE). If R = 0, keep = G"
+-- "R > 0: S2 = Held(min(Ordinate(S) + PE, MS)), keep = min(G + R, S2 × R / PE). If R = 0, keep = G"
 unfoldable pub keep : Parameters → ℕ → ℕ → ℕ → ℕ
-keep p g pe r = cond (ltb 0 r) (min (g + r) (raised p (level p g pe r) pe * r / pe)) g
+keep p g pe r = cond (ltb 0 r) (min (g + r) (rise (p .sm) (ms p) (p .xn) (level p g pe r) pe * r / pe)) g
 
 -- "RS = G + R − keep", 0 where R = 0; "RI = KI × keep / 65,536, RG likewise with KG; G becomes keep − RI − RG"
 abbrev pub drained : Parameters → ℕ → ℕ → Parted

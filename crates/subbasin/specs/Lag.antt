@@ -1,8 +1,17 @@
 -- Document 01, "The store law": the lag line.
-use Prim.Native.Nat.{ℕ, _-_}
+use Prim.Native.Nat.{ℕ, _-_, _^_}
+use mathlib.Core.Bool.{Bool, _&&_}
 use mathlib.Core.List.{List, [], _∷_, _++_}
-use lib.ListN.{getD, take, replicate}
-use Rattle.subbasin.specs.declared.lag.LagLine.{LagLine}
+use lib.ListN.{getD, take, drop, replicate}
+use Rattle.common.specs.Amounts.{allUpTo}
+use Rattle.subbasin.specs.declared.record.LagLine.{LagLine}
+
+-- "a waiting amount above 2^50 or unused and not zero" is outside
+abbrev pub mostWaiting : ℕ
+mostWaiting = 2 ^ 50
+
+unfoldable pub lineIn : LagLine → Bool
+lineIn line = allUpTo mostWaiting (line .waiting) && allUpTo 0 (drop (line .lag) (line .waiting))
 
 -- "what leaves is what entered L steps ago (L = 0: itself)"
 unfoldable pub leaving : LagLine → ℕ → ℕ

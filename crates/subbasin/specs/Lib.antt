@@ -1,9 +1,9 @@
 -- Document 01 as definitions: one sub-basin's record and its limits, and one step of it, stage by stage.
 pub mod Record
+pub mod Lag
+pub mod Content
 pub mod Soil
 pub mod FreeWater
-pub mod Lag
-pub mod Limits
 pub mod Step
-pub mod Content
+pub mod Workers
 pub mod Cases

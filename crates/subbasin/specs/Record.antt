@@ -1,83 +1,102 @@
 -- A sub-basin's record and its limits: document 01, "The basin file" and 9 and 10 of "Who sent it".
-use Prim.Native.Nat.{ℕ, suc, _-_, _^_}
-use mathlib.Core.Bool.{Bool, true, cond, _&&_}
+use Prim.Native.Nat.{ℕ, _-_, _^_}
+use mathlib.Core.Bool.{Bool, _&&_}
 use mathlib.Core.List.{List, [], _∷_}
-use lib.Dec.{leb}
-use lib.ListN.{drop}
-use Rattle.curve.specs.Shares.{within}
-use Rattle.subbasin.specs.declared.record.Parameters.{Parameters}
-use Rattle.subbasin.specs.declared.record.Contents.{Contents}
+use lib.Dec.{leb, eqb}
+use lib.ListN.{getD, replicate}
+use Rattle.common.specs.Shares.{one}
+use Rattle.common.specs.Limits.{Word, word, values, wordsIn, firstOut}
+use Rattle.common.specs.Amounts.{allUpTo}
 use Rattle.subbasin.specs.declared.record.SubBasin.{SubBasin}
-use Rattle.subbasin.specs.declared.lag.LagLine.{LagLine}
+use Rattle.subbasin.specs.Lag.{lineIn}
 
--- a word and its range
-pub record Word : Type 0 where
-  pub lo : ℕ
-  pub value : ℕ
-  pub hi : ℕ
+-- "23 words a sub-basin"
+abbrev pub wordCount : ℕ
+wordCount = 23
 
-abbrev pub word : ℕ → ℕ → ℕ → Word
-word lo x hi = record { lo = lo; value = x; hi = hi }
-
--- every word is inside its range
-unfoldable pub wordsIn : List Word → Bool
-wordsIn [] = true
-wordsIn (w ∷ ws) = within (w .lo) (w .value) (w .hi) && wordsIn ws
-
--- the number of the first word outside its range, counted from 0, and how many there are where none is
-unfoldable pub firstOut : List Word → ℕ
-firstOut [] = 0
-firstOut (w ∷ ws) = cond (within (w .lo) (w .value) (w .hi)) (suc (firstOut ws)) 0
-
--- words from the lists of their lower ends, values and upper ends
-abbrev pub zipped : List ℕ → List ℕ → List ℕ → List Word
-zipped [] xs his = []
-zipped (lo ∷ los) [] his = []
-zipped (lo ∷ los) (x ∷ xs) [] = []
-zipped (lo ∷ los) (x ∷ xs) (hi ∷ his) = word lo x hi ∷ zipped los xs his
-
--- The 23 words in the file's order. REACH has the range 0..M, VI and VG 0..V, where V is 1,000,000 in the file and 2^33 in a
--- basin handed in.
-abbrev pub words : ℕ → ℕ → Parameters → Contents → ℕ → List Word
-words m v p w l =
-    word 1 (p .area) 5000
-    ∷ word 0 (p .k) 131072
-    ∷ word 0 (p .um) 100000
-    ∷ word 1 (p .lm) 200000
-    ∷ word 0 (p .dm) 200000
-    ∷ word 0 (p .c) 65535
-    ∷ word 16 (p .bn) 32
-    ∷ word 0 (p .im) 32768
-    ∷ word 1 (p .sm) 100000
-    ∷ word 16 (p .xn) 48
-    ∷ word 0 (p .ki) 65536
-    ∷ word 0 (p .kg) (65536 - p .ki)
-    ∷ word 0 (p .ci) 65535
-    ∷ word 0 (p .cg) 65535
-    ∷ word 0 (p .cs) 65535
-    ∷ word 0 l 15
-    ∷ word 0 (p .reach) m
-    ∷ word 0 (w .wu) (p .um)
-    ∷ word 0 (w .wl) (p .lm)
-    ∷ word 0 (w .wd) (p .dm)
-    ∷ word 0 (w .g) (p .sm)
-    ∷ word 0 (w .vi) v
-    ∷ word 0 (w .vg) v
+-- The words in the file's order, each with its range. REACH has the range 0..M, VI and VG 0..V.
+abbrev pub words : ℕ → ℕ → SubBasin → List Word
+words m v s =
+    word 1 (s .fixed .area) 5000
+    ∷ word 0 (s .fixed .k) 131072
+    ∷ word 0 (s .fixed .um) 100000
+    ∷ word 1 (s .fixed .lm) 200000
+    ∷ word 0 (s .fixed .dm) 200000
+    ∷ word 0 (s .fixed .c) 65535
+    ∷ word 16 (s .fixed .bn) 32
+    ∷ word 0 (s .fixed .im) 32768
+    ∷ word 1 (s .fixed .sm) 100000
+    ∷ word 16 (s .fixed .xn) 48
+    ∷ word 0 (s .fixed .ki) one
+    ∷ word 0 (s .fixed .kg) (one - s .fixed .ki)
+    ∷ word 0 (s .fixed .ci) 65535
+    ∷ word 0 (s .fixed .cg) 65535
+    ∷ word 0 (s .fixed .cs) 65535
+    ∷ word 0 (s .line .lag) 15
+    ∷ word 0 (s .fixed .reach) m
+    ∷ word 0 (s .contents .wu) (s .fixed .um)
+    ∷ word 0 (s .contents .wl) (s .fixed .lm)
+    ∷ word 0 (s .contents .wd) (s .fixed .dm)
+    ∷ word 0 (s .contents .g) (s .fixed .sm)
+    ∷ word 0 (s .contents .vi) v
+    ∷ word 0 (s .contents .vg) v
     ∷ []
 
--- no amount is above the bound
-unfoldable pub allUpTo : ℕ → List ℕ → Bool
-allUpTo b [] = true
-allUpTo b (x ∷ xs) = leb x b && allUpTo b xs
+-- the number of the first word outside its range, counted from 0, and the word count where none is
+unfoldable pub firstOutside : ℕ → ℕ → SubBasin → ℕ
+firstOutside m v s = firstOut (words m v s)
 
--- "a waiting amount above 2^50 or unused and not zero"
-unfoldable pub lineIn : LagLine → Bool
-lineIn line = allUpTo (2 ^ 50) (line .waiting) && allUpTo 0 (drop (line .lag) (line .waiting))
+-- the words alone
+abbrev pub wordsOf : SubBasin → List ℕ
+wordsOf s = values (words 0 0 s)
 
--- "VI and VG have 0..2^33 here instead"
+-- the record of so many words: "Lag lines, CS stores and reaches start empty"
+abbrev pub ofWords : List ℕ → SubBasin
+ofWords v =
+    record {
+      fixed =
+          record {
+            area = getD v 0 0;
+            k = getD v 1 0;
+            um = getD v 2 0;
+            lm = getD v 3 0;
+            dm = getD v 4 0;
+            c = getD v 5 0;
+            bn = getD v 6 0;
+            im = getD v 7 0;
+            sm = getD v 8 0;
+            xn = getD v 9 0;
+            ki = getD v 10 0;
+            kg = getD v 11 0;
+            ci = getD v 12 0;
+            cg = getD v 13 0;
+            cs = getD v 14 0;
+            reach = getD v 16 0;
+          };
+      contents =
+          record { wu = getD v 17 0; wl = getD v 18 0; wd = getD v 19 0; g = getD v 20 0; vi = getD v 21 0; vg = getD v 22 0 };
+      line = record { lag = getD v 15 0; waiting = replicate 15 0 };
+      channel = 0;
+    }
+
+-- V: "VI and VG each 0..1,000,000" in the file, "VI and VG have 0..2^33 here instead" in a basin handed in
+abbrev pub mostStart : ℕ
+mostStart = 1000000
+
 abbrev pub mostSlow : ℕ
 mostSlow = 2 ^ 33
 
--- A record that 9 allows, with REACH up to m.
+-- "a CS store or reach above 2^56"
+abbrev pub mostStored : ℕ
+mostStored = 2 ^ 56
+
+-- a record that 9 allows, with REACH up to m
 unfoldable pub recordIn : ℕ → SubBasin → Bool
-recordIn m s = wordsIn (words m mostSlow (s .fixed) (s .contents) (s .line .lag)) && lineIn (s .line) && leb (s .channel) (2 ^ 56)
+recordIn m s = wordsIn (words m mostSlow s) && lineIn (s .line) && leb (s .channel) mostStored
+
+-- "an unused record not zero": all zeros, as a record and as a test
+abbrev pub blankSub : SubBasin
+blankSub = ofWords (replicate wordCount 0)
+
+unfoldable pub isBlank : SubBasin → Bool
+isBlank s = allUpTo 0 (s .line .waiting) && eqb (s .channel) 0 && allUpTo 0 (wordsOf s)

@@ -2,8 +2,8 @@
 use Prim.Native.Nat.{ℕ, _+_, _-_, _*_, _/_, min}
 use mathlib.Core.Bool.{cond}
 use lib.Dec.{leb, ltb}
-use Rattle.curve.specs.Shares.{one}
-use Rattle.curve.specs.Capacity.{held, ordinate}
+use Rattle.common.specs.Shares.{one}
+use Rattle.curve.specs.Capacity.{rise}
 use Rattle.subbasin.specs.declared.record.Parameters.{Parameters}
 use Rattle.subbasin.specs.declared.soil.Layers.{Layers}
 use Rattle.subbasin.specs.declared.soil.Evaporated.{Evaporated}
@@ -60,7 +60,7 @@ rb p pe = p .im * pe / one
 
 -- "gain = min(X, Held(min(Ordinate(W) + PE, MM)) − W)"
 unfoldable pub gain : Parameters → ℕ → ℕ → ℕ → ℕ
-gain p w pe x = min x (held (wm p) (mm p) (p .bn) (min (ordinate (wm p) (mm p) (p .bn) w + pe) (mm p)) - w)
+gain p w pe x = min x (rise (wm p) (mm p) (p .bn) w pe - w)
 
 -- "The gain fills WU to UM, then WL to LM, then WD"
 unfoldable pub filled : Parameters → Layers → ℕ → Layers

@@ -2,7 +2,9 @@
 use Prim.Native.Nat.{ℕ, _+_, _-_, _*_}
 use mathlib.Core.Bool.{Bool, cond, _&&_}
 use lib.Dec.{leb}
-use Rattle.curve.specs.Shares.{one}
+use Rattle.common.specs.Shares.{one}
+use Rattle.common.specs.declared.weather.Weather.{Weather}
+use Rattle.common.specs.Weather.{mostRain, mostPan}
 use Rattle.curve.specs.declared.store.Store.{Store}
 use Rattle.curve.specs.Store.{outflow, content}
 use Rattle.subbasin.specs.declared.record.Contents.{Contents}
@@ -81,8 +83,8 @@ with-runoff s ev ro = with-parted s ev ro (parted (s .fixed) (s .contents .g) (e
 abbrev pub with-evaporated : SubBasin → Evaporated → Stepped
 with-evaporated s ev = with-runoff s ev (runoff (s .fixed) (ev .layers) (ev .pe))
 
-unfoldable pub stepped : SubBasin → ℕ → ℕ → Stepped
-stepped s rain pan = with-evaporated s (evaporated (s .fixed) (layersOf (s .contents)) rain (ep (s .fixed) pan))
+unfoldable pub stepped : SubBasin → Weather → Stepped
+stepped s w = with-evaporated s (evaporated (s .fixed) (layersOf (s .contents)) (w .rain) (ep (s .fixed) (w .pan)))
 
 -- 10, place 0, the record as it was, all else 0
 abbrev pub returned : SubBasin → Stepped
@@ -91,8 +93,9 @@ returned s =
     { number = 10; place = 0; after = s; eu = 0; el = 0; ed = 0; rb = 0; r = 0; rs = 0; ri = 0; rg = 0; q = 0 }
 
 -- "for a record that 9 would refuse (REACH isn't judged), rain above 1,000,000 or pan above 100,000"
-unfoldable pub callIn : SubBasin → ℕ → ℕ → Bool
-callIn s rain pan = recordIn (s .fixed .reach) s && leb rain 1000000 && leb pan 100000
+unfoldable pub callIn : SubBasin → Weather → Bool
+callIn s w = recordIn (s .fixed .reach) s && leb (w .rain) mostRain && leb (w .pan) mostPan
 
-unfoldable pub stepCall : SubBasin → ℕ → ℕ → Stepped
-stepCall s rain pan = cond (callIn s rain pan) (stepped s rain pan) (returned s)
+-- the sub-basin call
+unfoldable pub subCall : SubBasin → Weather → Stepped
+subCall s w = cond (callIn s w) (stepped s w) (returned s)

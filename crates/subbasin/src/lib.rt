@@ -1,7 +1,7 @@
 // One sub-basin, one step: document 01, sections "One sub-basin, one step", "The store law" and "The basin file".
+pub mod content;
 mod free_water;
-pub mod lag;
+mod lag;
 pub mod record;
 mod soil;
 pub mod step;
-mod waiting;

@@ -1,11 +1,15 @@
-// A sub-basin's record: the 23 words of the basin file, the lag line and the channel store; and its limits.
+// A sub-basin's record: the words of the basin file, the lag line and the channel store; and its limits.
 ghost use mathlib.Core.Path.{_≡_};
-ghost use Prim.Native.Nat.{_-_};
-ghost use Rattle.subbasin.specs.Record.{words, zipped, firstOut, lineIn, recordIn};
+ghost use Prim.Native.Nat.{_-_, _≤_};
+ghost use Rattle.common.specs.Shares.{one};
+ghost use Rattle.subbasin.specs.Workers.{further, leading};
+ghost use Rattle.subbasin.specs.Record.{words, wordsOf, ofWords, firstOutside, recordIn, isBlank};
 use crate::lag;
-use crate::lag::LagLine;
+use common::amounts;
+use common::shares::ONE;
+use curve::store::MOST_CONTENT;
 
-// The words that no step changes. Area in km², capacities in µm, shares in parts of 65,536.
+// The words that no step changes, L apart. Area in km², capacities in µm, shares in parts of 65,536.
 pub struct Parameters {
     pub area: u64,
     pub k: u64,
@@ -35,6 +39,12 @@ pub struct Contents {
     pub vg: u64,
 }
 
+// Up to 15 amounts in m³ in waiting, the newest first, and the lag L in steps.
+pub struct LagLine {
+    pub lag: u64,
+    pub waiting: [u64; 15],
+}
+
 // The lag line and the channel (CS) store's content in m³ complete the record.
 pub struct SubBasin {
     pub fixed: Parameters,
@@ -43,139 +53,181 @@ pub struct SubBasin {
     pub channel: u64,
 }
 
-// The 23 words in the file's order, each with its range.
-pub struct Ranges {
-    pub lo: [u64; 23],
-    pub value: [u64; 23],
-    pub hi: [u64; 23],
+// How many words a record has in the file.
+pub const WORDS: usize = 23;
+
+// VI and VG: the most in the file, and the most in a basin handed in.
+pub const MOST_START: u64 = 1000000;
+
+pub const MOST_SLOW: u64 = 8589934592; // 2^33
+
+// The record of a file's words. Lag line and CS store start empty.
+pub fn of_words(v: [u64; WORDS]) -> SubBasin
+    ensures { λ r. ⌜ r ≡ ofWords v ⌝ }
+{
+    let fixed = Parameters {
+        area: v[0],
+        k: v[1],
+        um: v[2],
+        lm: v[3],
+        dm: v[4],
+        c: v[5],
+        bn: v[6],
+        im: v[7],
+        sm: v[8],
+        xn: v[9],
+        ki: v[10],
+        kg: v[11],
+        ci: v[12],
+        cg: v[13],
+        cs: v[14],
+        reach: v[16],
+    };
+    let contents = Contents {
+        wu: v[17],
+        wl: v[18],
+        wd: v[19],
+        g: v[20],
+        vi: v[21],
+        vg: v[22],
+    };
+    let line = LagLine {
+        lag: v[15],
+        waiting: [0u64; 15],
+    };
+    SubBasin {
+        fixed,
+        contents,
+        line,
+        channel: 0,
+    }
 }
 
-// The ranges of a sub-basin's words, with REACH up to m, VI and VG up to v.
-pub fn ranges_of(p: Parameters, w: Contents, lag: u64, m: u64, v: u64) -> Ranges
-    ensures { λ r. ⌜ zipped (r .lo) (r .value) (r .hi) ≡ words m v p w lag ⌝ }
+// A record's words, in the file's order.
+pub fn words_of(s: SubBasin) -> [u64; WORDS]
+    ensures { λ r. ⌜ r ≡ wordsOf s ⌝ }
 {
-    Ranges {
-        lo: [
-            1,
-            0,
-            0,
-            1,
-            0,
-            0,
-            16,
-            0,
-            1,
-            16,
-            0,
-            0,
-            0,
-            0,
-            0,
-            0,
-            0,
-            0,
-            0,
-            0,
-            0,
-            0,
-            0,
-        ],
-        value: [
-            p.area,
-            p.k,
-            p.um,
-            p.lm,
-            p.dm,
-            p.c,
-            p.bn,
-            p.im,
-            p.sm,
-            p.xn,
-            p.ki,
-            p.kg,
-            p.ci,
-            p.cg,
-            p.cs,
-            lag,
-            p.reach,
-            w.wu,
-            w.wl,
-            w.wd,
-            w.g,
-            w.vi,
-            w.vg,
-        ],
-        hi: [
-            5000,
-            131072,
-            100000,
-            200000,
-            200000,
-            65535,
-            32,
-            32768,
-            100000,
-            48,
-            65536,
-            rest(p.ki),
-            65535,
-            65535,
-            65535,
-            15,
-            m,
-            p.um,
-            p.lm,
-            p.dm,
-            p.sm,
-            v,
-            v,
-        ],
+    let p = s.fixed;
+    let w = s.contents;
+    let line = s.line;
+    [
+        p.area,
+        p.k,
+        p.um,
+        p.lm,
+        p.dm,
+        p.c,
+        p.bn,
+        p.im,
+        p.sm,
+        p.xn,
+        p.ki,
+        p.kg,
+        p.ci,
+        p.cg,
+        p.cs,
+        line.lag,
+        p.reach,
+        w.wu,
+        w.wl,
+        w.wd,
+        w.g,
+        w.vi,
+        w.vg,
+    ]
+}
+
+// The number of the first word outside its range, counted from 0, and WORDS where none is. REACH is up to m, VI and VG up to v.
+pub fn first_outside(s: SubBasin, m: u64, v: u64) -> u64
+    ensures { λ r. ⌜ r ≡ firstOutside m v s ⌝ }
+{
+    inside(s, m, v)
+}
+
+// How many words from the first on are inside their ranges.
+fn inside(s: SubBasin, m: u64, v: u64) -> u64
+    ensures { λ r. ⌜ r ≡ leading 0 0 (words m v s) ⌝ }
+{
+    let p = s.fixed;
+    let w = s.contents;
+    let line = s.line;
+    let mut n = 0;
+    n = next(n, 0, 1, p.area, 5000);
+    n = next(n, 1, 0, p.k, 131072);
+    n = next(n, 2, 0, p.um, 100000);
+    n = next(n, 3, 1, p.lm, 200000);
+    n = next(n, 4, 0, p.dm, 200000);
+    n = next(n, 5, 0, p.c, 65535);
+    n = next(n, 6, 16, p.bn, 32);
+    n = next(n, 7, 0, p.im, 32768);
+    n = next(n, 8, 1, p.sm, 100000);
+    n = next(n, 9, 16, p.xn, 48);
+    n = next(n, 10, 0, p.ki, ONE);
+    n = next(n, 11, 0, p.kg, rest(p.ki));
+    n = next(n, 12, 0, p.ci, 65535);
+    n = next(n, 13, 0, p.cg, 65535);
+    n = next(n, 14, 0, p.cs, 65535);
+    n = next(n, 15, 0, line.lag, 15);
+    n = next(n, 16, 0, p.reach, m);
+    n = next(n, 17, 0, w.wu, p.um);
+    n = next(n, 18, 0, w.wl, p.lm);
+    n = next(n, 19, 0, w.wd, p.dm);
+    n = next(n, 20, 0, w.g, p.sm);
+    n = next(n, 21, 0, w.vi, v);
+    n = next(n, 22, 0, w.vg, v);
+    n
+}
+
+// One more than k, where the k words before are inside and x is from lo to hi.
+fn next(n: u64, k: u64, lo: u64, x: u64, hi: u64) -> u64
+    requires { ⌜ k ≤ 64 ⌝ }
+    ensures { λ r. ⌜ r ≡ further n k lo x hi ⌝ }
+{
+    if n == k {
+        if lo <= x {
+            if x <= hi {
+                return k + 1;
+            }
+        }
     }
+    n
 }
 
 // 65,536 less the share, and 0 for a share above it.
 fn rest(share: u64) -> u64
-    ensures { λ r. ⌜ r ≡ 65536 - share ⌝ }
+    ensures { λ r. ⌜ r ≡ one - share ⌝ }
 {
-    if share < 65536 {
-        return 65536 - share;
+    if share < ONE {
+        return ONE - share;
     }
     0
-}
-
-// The number of the first word outside its range, counted from 0, and 23 where none is.
-pub fn first_outside(lo: [u64; 23], value: [u64; 23], hi: [u64; 23]) -> u64
-    ensures { λ r. ⌜ r ≡ firstOut (zipped lo value hi) ⌝ }
-{
-    let mut i = 0;
-    while i < 23 {
-        if value[i] < lo[i] {
-            return i as u64;
-        }
-        if hi[i] < value[i] {
-            return i as u64;
-        }
-        i += 1;
-    }
-    23
 }
 
 // Whether 9 allows the record, with REACH up to m.
 pub fn allowed(s: SubBasin, m: u64) -> bool
     ensures { λ r. ⌜ r ≡ recordIn m s ⌝ }
 {
-    let p = s.fixed;
-    let w = s.contents;
+    if first_outside(s, m, MOST_SLOW) != WORDS as u64 {
+        return false;
+    }
+    if MOST_CONTENT < s.channel {
+        return false;
+    }
     let line = s.line;
-    let r = ranges_of(p, w, line.lag, m, 8589934592);
-    let lo = r.lo;
-    let value = r.value;
-    let hi = r.hi;
-    if first_outside(lo, value, hi) != 23 {
-        return false;
+    lag::allowed(line)
+}
+
+// Whether the record is all zeros.
+pub fn is_blank(s: SubBasin) -> bool
+    ensures { λ r. ⌜ r ≡ isBlank s ⌝ }
+{
+    let line = s.line;
+    let waiting = line.waiting;
+    if amounts::up_to(0, &waiting, 0) {
+        if s.channel == 0 {
+            let words = words_of(s);
+            return amounts::up_to(0, &words, 0);
+        }
     }
-    if 72057594037927936 < s.channel {
-        return false;
-    }
-    line.allowed()
+    false
 }

@@ -1,9 +1,13 @@
 // Evapotranspiration, runoff and the three layers of tension water: document 01, "One sub-basin, one step". All in µm.
 ghost use mathlib.Core.Path.{_≡_};
-ghost use Prim.Native.Nat.{_+_, _≤_, _<_, min};
-ghost use Rattle.subbasin.specs.Limits.{SoilIn, LayersIn};
+ghost use Prim.Native.Nat.{_+_, _≤_, _<_};
+ghost use mathlib.Core.Bool.{true};
+ghost use Rattle.curve.specs.Capacity.{curveIn, rise};
+ghost use Rattle.subbasin.specs.Workers.{SoilIn, LayersIn};
 ghost use Rattle.subbasin.specs.Soil.{fallen, deeper, evaporated, tension, wm, mm, gain, filled, runoff};
 use crate::record::Parameters;
+use common::amounts::least;
+use common::shares::ONE;
 use curve::capacity;
 
 // Water in the upper, lower and deep layer.
@@ -27,18 +31,6 @@ pub struct Runoff {
     pub rb: u64,
     pub r: u64,
     pub layers: Layers,
-}
-
-const ONE: u64 = 65536;
-
-// The lesser of two numbers.
-pub fn least(a: u64, b: u64) -> u64
-    ensures { λ r. ⌜ r ≡ min a b ⌝ }
-{
-    if a < b {
-        return a;
-    }
-    b
 }
 
 // EP is e: from rain where it is enough, and otherwise from the layers, the upper one first.
@@ -121,9 +113,17 @@ fn gain_of(p: Parameters, w: u64, pe: u64, x: u64) -> u64
 {
     let c = p.um + p.lm + p.dm;
     let m = most_point(p);
-    let from = capacity::ordinate(c, m, p.bn, w);
-    let to = capacity::held(c, m, p.bn, least(from.value + pe, m));
-    least(x, to.value - w)
+    least(x, raise(c, m, p.bn, w, pe) - w)
+}
+
+// What the curve holds once pe has come on top of w.
+pub fn raise(c: u64, m: u64, e: u64, w: u64, pe: u64) -> u64
+    requires { ⌜ (curveIn c m e ≡ true) × (w ≤ c) × (pe ≤ 1000000) ⌝ }
+    ensures { λ r. ⌜ r ≡ rise c m e w pe ⌝ }
+{
+    let from = capacity::ordinate(c, m, e, w);
+    let to = capacity::held(c, m, e, least(from.value + pe, m));
+    to.value
 }
 
 // MM, the greatest point capacity of tension water.

@@ -2,10 +2,12 @@
 ghost use mathlib.Core.Path.{_≡_};
 ghost use mathlib.Core.Bool.{true};
 ghost use Prim.Native.Nat.{_+_, _≤_};
+ghost use Rattle.common.specs.Weather.{WeatherIn};
 ghost use Rattle.subbasin.specs.Record.{recordIn};
-ghost use Rattle.subbasin.specs.Step.{slowStore, with-parted, returned, stepped, stepCall};
+ghost use Rattle.subbasin.specs.Step.{slowStore, with-parted, returned, stepped, subCall};
 use crate::free_water;
 use crate::free_water::Parted;
+use crate::lag;
 use crate::record;
 use crate::record::Contents;
 use crate::record::SubBasin;
@@ -13,7 +15,10 @@ use crate::soil;
 use crate::soil::Evaporated;
 use crate::soil::Layers;
 use crate::soil::Runoff;
-use crate::waiting;
+use common::shares::ONE;
+use common::weather::MOST_PAN;
+use common::weather::MOST_RAIN;
+use common::weather::Weather;
 use curve::store::Store;
 
 // What a step of a sub-basin gives: number and place are 0 where it is accepted. Depths in µm, q in m³.
@@ -32,25 +37,19 @@ pub struct Stepped {
     pub q: u64,
 }
 
-const ONE: u64 = 65536;
-
-const MOST_RAIN: u64 = 1000000;
-
-const MOST_PAN: u64 = 100000;
-
-// One step under rain and pan depths in µm.
-pub fn step(s: SubBasin, rain: u64, pan: u64) -> Stepped
-    ensures { λ r. ⌜ r ≡ stepCall s rain pan ⌝ }
+// One step under the weather of a line.
+pub fn step(s: SubBasin, weather: Weather) -> Stepped
+    ensures { λ r. ⌜ r ≡ subCall s weather ⌝ }
 {
     let p = s.fixed;
-    if MOST_RAIN < rain {
+    if MOST_RAIN < weather.rain {
         return refuse(s);
     }
-    if MOST_PAN < pan {
+    if MOST_PAN < weather.pan {
         return refuse(s);
     }
     if record::allowed(s, p.reach) {
-        return run(s, rain, pan);
+        return run(s, weather);
     }
     refuse(s)
 }
@@ -75,9 +74,9 @@ fn refuse(s: SubBasin) -> Stepped
 }
 
 // The stages in order: evapotranspiration, runoff, free water, then the way to the outlet.
-fn run(s: SubBasin, rain: u64, pan: u64) -> Stepped
-    requires { ⌜ (recordIn (s .fixed .reach) s ≡ true) × (rain ≤ 1000000) × (pan ≤ 100000) ⌝ }
-    ensures { λ r. ⌜ r ≡ stepped s rain pan ⌝ }
+fn run(s: SubBasin, weather: Weather) -> Stepped
+    requires { ⌜ (recordIn (s .fixed .reach) s ≡ true) × WeatherIn weather ⌝ }
+    ensures { λ r. ⌜ r ≡ stepped s weather ⌝ }
 {
     let p = s.fixed;
     let w = s.contents;
@@ -86,7 +85,7 @@ fn run(s: SubBasin, rain: u64, pan: u64) -> Stepped
         wl: w.wl,
         wd: w.wd,
     };
-    let ev = soil::evaporate(p, layers, rain, p.k * pan / ONE);
+    let ev = soil::evaporate(p, layers, weather.rain, p.k * weather.pan / ONE);
     let left = ev.layers;
     let ro = soil::run_off(p, left, ev.pe);
     let pw = free_water::drain(p, w.g, ev.pe, ro.r);
@@ -104,7 +103,7 @@ fn route(s: SubBasin, ev: Evaporated, ro: Runoff, pw: Parted) -> Stepped
     let interflow = slow(p.ci, w.vi).take(pw.ri);
     let ground = slow(p.cg, w.vg).take(pw.rg);
     let t = (pw.rs + ro.rb + interflow.outflow + ground.outflow) * p.area;
-    let channel = slow(p.cs, s.channel).take(waiting::leave(line, t));
+    let channel = slow(p.cs, s.channel).take(lag::leave(line, t));
     let layers = ro.layers;
     let vi = interflow.store;
     let vg = ground.store;
@@ -122,7 +121,7 @@ fn route(s: SubBasin, ev: Evaporated, ro: Runoff, pw: Parted) -> Stepped
                 vi: vi.content,
                 vg: vg.content,
             },
-            line: waiting::enter(line, t),
+            line: lag::enter(line, t),
             channel: ch.content,
         },
         eu: ev.eu,

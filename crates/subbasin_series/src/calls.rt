@@ -1,109 +1,55 @@
-// A sub-basin call as 41 numbers, by place: 0 to 22 the basin file's words, 23 to 37 the amounts in
-// waiting, 38 the channel store, 39 rain and 40 pan.
-use subbasin::lag::LagLine;
-use subbasin::record::Contents;
-use subbasin::record::Parameters;
+// A sub-basin call as numbers by place: the record's, then rain and pan; and their ranges.
+use common::weather::Weather;
+use subbasin::record::MOST_SLOW;
 use subbasin::record::SubBasin;
 use subbasin::step;
 use subbasin::step::Stepped;
+use testing::checksum;
+use testing::lines;
+use testing::ranges;
+use testing::ranges::Range;
+use testing::rows;
 
 pub struct Call {
-    pub words: [u64; 23],
-    pub waiting: [u64; 15],
-    // The channel store, rain and pan.
-    pub rest: [u64; 3],
+    pub record: SubBasin,
+    pub weather: Weather,
 }
 
-pub fn call_of(s: SubBasin, rain: u64, pan: u64) -> Call {
-    let line = s.line;
-    let words = words_of(s.fixed, s.contents, line.lag);
-    let waiting = line.waiting;
-    let rest = [s.channel, rain, pan];
-    Call {
-        words,
-        waiting,
-        rest,
-    }
-}
+const RAIN: usize = rows::PLACES;
 
-fn words_of(p: Parameters, c: Contents, lag: u64) -> [u64; 23] {
-    [
-        p.area,
-        p.k,
-        p.um,
-        p.lm,
-        p.dm,
-        p.c,
-        p.bn,
-        p.im,
-        p.sm,
-        p.xn,
-        p.ki,
-        p.kg,
-        p.ci,
-        p.cg,
-        p.cs,
-        lag,
-        p.reach,
-        c.wu,
-        c.wl,
-        c.wd,
-        c.g,
-        c.vi,
-        c.vg,
-    ]
-}
+pub const PLACES: usize = rows::PLACES + 2;
 
 pub fn answer(call: Call) -> Stepped {
-    let rest = call.rest;
-    step::step(record_of(call), rest[1], rest[2])
+    let record = call.record;
+    let weather = call.weather;
+    step::step(record, weather)
 }
 
-pub fn record_of(call: Call) -> SubBasin {
-    let words = call.words;
-    let waiting = call.waiting;
-    let rest = call.rest;
-    SubBasin {
-        fixed: parameters_of(words),
-        contents: contents_of(words),
-        line: LagLine {
-            lag: words[15],
-            waiting,
-        },
-        channel: rest[0],
-    }
+// A call and its answer in full, every number of both; hands back the record after.
+pub fn print(call: Call) -> SubBasin {
+    let record = call.record;
+    let weather = call.weather;
+    let given = answer(call);
+    let after = given.after;
+    let flows = flows_of(given);
+    lines::word(b"step");
+    lines::record(record);
+    lines::number(weather.rain);
+    lines::number(weather.pan);
+    lines::number(given.number);
+    lines::number(given.place);
+    lines::record(after);
+    lines::row(&flows);
+    lines::end();
+    after
 }
 
-fn parameters_of(w: [u64; 23]) -> Parameters {
-    Parameters {
-        area: w[0],
-        k: w[1],
-        um: w[2],
-        lm: w[3],
-        dm: w[4],
-        c: w[5],
-        bn: w[6],
-        im: w[7],
-        sm: w[8],
-        xn: w[9],
-        ki: w[10],
-        kg: w[11],
-        ci: w[12],
-        cg: w[13],
-        cs: w[14],
-        reach: w[16],
-    }
-}
-
-fn contents_of(w: [u64; 23]) -> Contents {
-    Contents {
-        wu: w[17],
-        wl: w[18],
-        wd: w[19],
-        g: w[20],
-        vi: w[21],
-        vg: w[22],
-    }
+// Every number of an answer: number and place, the record after, the flows.
+pub fn fold(h: u64, given: Stepped) -> u64 {
+    let after = given.after;
+    let flows = flows_of(given);
+    let told = checksum::fold(checksum::fold(h, given.number), given.place);
+    checksum::fold_row(checksum::fold_record(told, after), &flows)
 }
 
 pub fn flows_of(given: Stepped) -> [u64; 9] {
@@ -120,35 +66,66 @@ pub fn flows_of(given: Stepped) -> [u64; 9] {
     ]
 }
 
-// The number at a place.
 pub fn at(call: Call, place: usize) -> u64 {
-    let words = call.words;
-    let waiting = call.waiting;
-    let rest = call.rest;
-    if place < 23 {
-        return words[place];
+    let record = call.record;
+    let weather = call.weather;
+    if place < RAIN {
+        return rows::at(record, place);
     }
-    if place < 38 {
-        return waiting[place - 23];
+    if place == RAIN {
+        weather.rain
+    } else {
+        weather.pan
     }
-    rest[(place - 38) % 3]
 }
 
 // The call with v at a place.
 pub fn with(call: Call, place: usize, v: u64) -> Call {
-    let mut words = call.words;
-    let mut waiting = call.waiting;
-    let mut rest = call.rest;
-    if place < 23 {
-        words[place] = v;
-    } else if place < 38 {
-        waiting[place - 23] = v;
+    let record = call.record;
+    let weather = call.weather;
+    if place < RAIN {
+        return Call {
+            record: rows::with(record, place, v),
+            weather,
+        };
+    }
+    let other = if place == RAIN {
+        Weather {
+            rain: v,
+            pan: weather.pan,
+        }
     } else {
-        rest[(place - 38) % 3] = v;
-    }
+        Weather {
+            rain: weather.rain,
+            pan: v,
+        }
+    };
     Call {
-        words,
-        waiting,
-        rest,
+        record,
+        weather: other,
     }
+}
+
+pub fn range_of(call: Call, place: usize) -> Range {
+    let record = call.record;
+    if place < RAIN {
+        return record_range(record, place, MOST_SLOW);
+    }
+    ranges::between(0, if place == RAIN { 1000000 } else { 100000 })
+}
+
+// VI and VG are up to slow. REACH isn't judged: any word will do.
+pub fn record_range(record: SubBasin, place: usize, slow: u64) -> Range {
+    ranges::of_number(record, place, 4294967295, slow)
+}
+
+// One above the most, or below the least where that is asked for and there is one.
+pub fn outside(call: Call, place: usize, below: bool) -> u64 {
+    let range = range_of(call, place);
+    if below {
+        if 0 < range.least {
+            return range.below;
+        }
+    }
+    ranges::edge(range, 3)
 }

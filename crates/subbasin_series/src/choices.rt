@@ -1,80 +1,63 @@
-// Numbers put at the places of a call, in order and within their ranges.
+// Numbers put at the places of a record, in order and within their ranges.
 use crate::calls;
-use crate::calls::Call;
-use crate::ranges;
-use crate::weather;
+use common::amounts;
+use subbasin::record::MOST_SLOW;
+use subbasin::record::MOST_START;
+use subbasin::record::SubBasin;
+use testing::chance::next;
+use testing::choices;
+use testing::choices::Choice;
+use testing::rows;
 
-pub enum Choice {
-    Least,
-    // The most that a basin file may have.
-    Most,
+pub enum Pick {
+    // By choice, within the ranges of a basin file.
+    File(Choice),
     // The most that a record may have.
     Limit,
-    // Least or most, drawn.
-    End,
-    // Least, most, a small number or any, drawn.
-    Any,
     // What stands there, lowered to the most.
     Fitted,
 }
 
-// A call and the generator.
+// A record and the generator.
 pub struct Start {
-    pub call: Call,
+    pub record: SubBasin,
     pub x: u64,
 }
 
-// The places from..to by choice.
-pub fn chosen(call: Call, choice: Choice, from: usize, to: usize, x: u64) -> Start {
-    let mut s = Start { call, x };
+// The places from..to.
+pub fn chosen(record: SubBasin, pick: Pick, from: usize, to: usize, x: u64) -> Start {
+    let mut s = Start { record, x };
     for place in from..to {
-        s = choose(s, choice, place);
+        s = choose(s, pick, place);
     }
     s
 }
 
-fn choose(s: Start, choice: Choice, place: usize) -> Start {
-    let x1 = weather::next(s.x);
-    let x2 = weather::next(x1);
-    let call = s.call;
-    let least = ranges::least(place);
-    let most = ranges::most_at_start(call, place);
-    let v = match choice {
-        Choice::Least => least,
-        Choice::Most => most,
-        Choice::Limit => ranges::most(call, place),
-        Choice::End => if x1 % 2 == 0 { least } else { most },
-        Choice::Any => any(least, most, x1, x2),
-        Choice::Fitted => lower(calls::at(call, place), most),
+fn choose(s: Start, pick: Pick, place: usize) -> Start {
+    let x1 = next(s.x);
+    let x2 = next(x1);
+    let record = s.record;
+    let range = calls::record_range(record, place, MOST_START);
+    let limits = calls::record_range(record, place, MOST_SLOW);
+    let v = match pick {
+        Pick::File(choice) => choices::among(choice, place, range, x1, x2),
+        Pick::Limit => limits.most,
+        Pick::Fitted => amounts::least(rows::at(record, place), range.most),
     };
     Start {
-        call: calls::with(call, place, v),
+        record: rows::with(record, place, v),
         x: x2,
     }
 }
 
-fn any(least: u64, most: u64, x: u64, y: u64) -> u64 {
-    let v = match x % 8 {
-        0 => least,
-        1 => most,
-        2 => y % 20,
-        _ => y % (most % 72057594037927937 + 1),
-    };
-    if v < least { least } else { lower(v, most) }
-}
-
-fn lower(a: u64, b: u64) -> u64 {
-    if a < b { a } else { b }
-}
-
 // A start at most its capacity, KG at most what KI leaves, nothing in waiting past the lag.
-pub fn fitted(call: Call) -> Call {
-    let s = chosen(call, Choice::Fitted, 0, 38, 1);
-    s.call
+pub fn fitted(record: SubBasin) -> SubBasin {
+    let s = chosen(record, Pick::Fitted, 0, rows::CHANNEL, 1);
+    s.record
 }
 
 // The places from..to by choice, the others fitted to them.
-pub fn replaced(call: Call, choice: Choice, from: usize, to: usize) -> Call {
-    let s = chosen(call, choice, from, to, 1);
-    fitted(s.call)
+pub fn replaced(record: SubBasin, choice: Choice, from: usize, to: usize) -> SubBasin {
+    let s = chosen(record, Pick::File(choice), from, to, 1);
+    fitted(s.record)
 }

@@ -5,7 +5,7 @@ use Prim.Native.Nat.{ℕ, _≤_}
 use lib.Seq.{length-take-le}
 use Rattle.basin.specs.declared.file.Loaded.{Loaded}
 use Rattle.basin.specs.File.{fileBasin, loadCall}
-use Rattle.basin.proofs.LoadedLaws.{load-limits, load-holds-file}
+use Rattle.basin.proofs.file.LoadedLaws.{load-limits, load-holds-file}
 use borrow.Author.Needs.{needs}
 use Rattle.account.proofs.main.Statement.{statement}
 use Rattle.account.proofs.main.Tie as tie

@@ -1,8 +1,8 @@
 -- `basin::file::first_out` meets its contract. Assumes nothing.
 use native.Mathlib.Omega.{arith}
-use Rattle.basin.proofs.SearchLaws.{parts-le}
-use Rattle.basin.proofs.FileLaws.{reaches-parted, out-sub, out-reach}
 use borrow.Author.Needs.{needs}
+use Rattle.common.proofs.Limits.{parts-le}
+use Rattle.basin.proofs.file.FileLaws.{in-reaches, out-sub, out-reach}
 use Rattle.basin.proofs.file.first_out.Statement.{statement}
 use Rattle.basin.proofs.file.first_out.Tie as tie
 
@@ -13,7 +13,7 @@ mul-if1 : tie.Need-mul-if1
 mul-if1 c = search needs
 
 returns : tie.Need-returns
-returns c = out-sub _ _ _ _ (c .before .first-out-sub .ensures) (c .if1 .taken)
+returns c = out-sub _ _ _ (c .before .first-out-sub .ensures) (c .if1 .taken)
 
 first-out-reach-requires : tie.Need-first-out-reach-requires
 first-out-reach-requires c κs = search needs
@@ -21,12 +21,10 @@ first-out-reach-requires c κs = search needs
 add-result : tie.Need-add-result
 add-result c =
     let at = c .before .before .before .before .args in
-    omega (arith, parts-le (reaches-parted (at .bytes .now) (at .n) (at .m)) (at .m))
+    omega (arith, parts-le (in-reaches (at .bytes .now) (at .n) (at .m)) (at .m))
 
 returns-2 : tie.Need-returns-2
-returns-2 c = out-reach _ _ _ _ (c .before .before .first-out-sub .ensures) _ (c .first-out-reach .ensures) (c .before .if1 .left)
+returns-2 c = out-reach _ _ _ (c .before .before .first-out-sub .ensures) (c .before .if1 .left) (c .first-out-reach .ensures)
 
 pub first-out-spec : {M : Type 1} → statement M
-first-out-spec =
-    tie.close
-    (tie.spec first-out-sub-requires mul-if1 returns first-out-reach-requires add-result returns-2)
+first-out-spec = tie.close (tie.spec first-out-sub-requires mul-if1 returns first-out-reach-requires add-result returns-2)

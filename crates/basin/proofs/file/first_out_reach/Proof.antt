@@ -1,53 +1,43 @@
--- `basin::file::first_out_reach` meets its contract. The invariant of its loop: the rest of the search, from reach j on, gives the
--- answer. The measure is the count of reaches that are left. Assumes nothing.
+-- `basin::file::first_out_reach` meets its contract. The loop's invariant: the rest of the search, from reach j on, gives the answer.
+-- Assumes nothing.
 use Prim.Native.Nat.{_-_}
 use native.Mathlib.Omega.{arith}
+use Rattle.common.proofs.Limits.{Searching, search-begin, search-turn, search-found, search-none}
+use Rattle.basin.specs.Reach.{reachWordCount}
 use Rattle.basin.specs.File.{reachesWords}
-use Rattle.basin.proofs.SearchLaws.{Seeking, seek-begin, seek-on, seek-found, seek-none, first-at-most}
-use Rattle.basin.proofs.FileLaws.{reaches-parted, reach-part}
+use Rattle.basin.proofs.file.FileLaws.{in-reaches, reach-part, part-le}
 use Rattle.basin.proofs.file.first_out_reach.Statement.{statement}
 use Rattle.basin.proofs.file.first_out_reach.Tie as tie
 
 abbrev Inv-loop : tie.InvT-loop
-Inv-loop bytes n m j₀ j = Seeking 3 (reachesWords bytes n m) m j
+Inv-loop bytes n m j₀ j = Searching reachWordCount (reachesWords bytes n m) m j
 
 abbrev μ-loop : tie.MeasureT-loop
 μ-loop bytes n m j₀ j = m - j
 
 loop-holds : tie.Need-loop-holds Inv-loop μ-loop
-loop-holds c = seek-begin (reaches-parted _ _ _) _
-
-mul-reach-at : tie.Need-mul-reach-at Inv-loop μ-loop
-mul-reach-at c = omega arith
-
-add-reach-at : tie.Need-add-reach-at Inv-loop μ-loop
-add-reach-at c = omega arith
-
-mul-reach-at-2 : tie.Need-mul-reach-at-2 Inv-loop μ-loop
-mul-reach-at-2 c = omega arith
-
-add-reach-at-2 : tie.Need-add-reach-at-2 Inv-loop μ-loop
-add-reach-at-2 c = omega arith
+loop-holds c = search-begin (in-reaches _ _ _) _
 
 reach-at-requires : tie.Need-reach-at-requires Inv-loop μ-loop
 reach-at-requires c κs = omega arith
 
-add-first-of-reach : tie.Need-add-first-of-reach Inv-loop μ-loop
-add-first-of-reach c = omega arith
+add-first-outside : tie.Need-add-first-outside Inv-loop μ-loop
+add-first-outside c = omega arith
 
-first-of-reach-requires : tie.Need-first-of-reach-requires Inv-loop μ-loop
-first-of-reach-requires c κs = omega arith
+first-outside-requires : tie.Need-first-outside-requires Inv-loop μ-loop
+first-outside-requires c κs = tt
 
 mul-result : tie.Need-mul-result Inv-loop μ-loop
 mul-result c = omega arith
 
 add-result : tie.Need-add-result Inv-loop μ-loop
-add-result c = omega (arith, first-at-most _ (c .before .first-of-reach .ensures))
+add-result c = omega (arith, part-le _ (c .before .first-outside .ensures))
 
 returns : tie.Need-returns Inv-loop μ-loop
 returns c =
-    seek-found (reaches-parted _ _ _) (c .before .before .before .before .loop .inv) (c .before .before .before .loop-test .taken)
-    (reach-part _ _ _ _ _ _ (c .before .before .reach-at .ensures) (c .before .first-of-reach .ensures)) (c .if1 .taken)
+    let at = c .before .before in
+    search-found (in-reaches _ _ _) (at .before .before .loop .inv) (at .before .loop-test .taken)
+    (reach-part _ _ _ _ (at .reach-at .ensures) (c .before .first-outside .ensures)) (c .if1 .taken)
 
 add-j : tie.Need-add-j Inv-loop μ-loop
 add-j c = omega arith
@@ -57,14 +47,15 @@ loop-less c = omega arith
 
 loop-again : tie.Need-loop-again Inv-loop μ-loop
 loop-again c =
-    seek-on (reaches-parted _ _ _) (c .before .before .before .before .loop .inv) (c .before .before .before .loop-test .taken)
-    (reach-part _ _ _ _ _ _ (c .before .before .reach-at .ensures) (c .before .first-of-reach .ensures)) (c .if1 .left)
+    let at = c .before .before in
+    search-turn (in-reaches _ _ _) (at .before .before .loop .inv) (at .before .loop-test .taken)
+    (reach-part _ _ _ _ (at .reach-at .ensures) (c .before .first-outside .ensures)) (c .if1 .left)
 
 mul-result-2 : tie.Need-mul-result-2 Inv-loop μ-loop
 mul-result-2 c = omega arith
 
 returns-2 : tie.Need-returns-2 Inv-loop μ-loop
-returns-2 c = seek-none (reaches-parted _ _ _) (c .before .loop .inv) (c .loop-test .left)
+returns-2 c = search-none (in-reaches _ _ _) (c .before .loop .inv) (c .loop-test .left)
 
 pub first-out-reach-spec : {M : Type 1} → statement M
 first-out-reach-spec =
@@ -73,13 +64,9 @@ first-out-reach-spec =
     Inv-loop
     μ-loop
     loop-holds
-    mul-reach-at
-    add-reach-at
-    mul-reach-at-2
-    add-reach-at-2
     reach-at-requires
-    add-first-of-reach
-    first-of-reach-requires
+    add-first-outside
+    first-outside-requires
     mul-result
     add-result
     returns

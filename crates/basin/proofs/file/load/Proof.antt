@@ -1,62 +1,59 @@
--- `basin::file::load` meets its contract: each way out is a law of `proofs/FileLaws.antt`. Assumes nothing.
+-- `basin::file::load` meets its contract: each way out is a law of the load call. Assumes nothing.
 use mathlib.Core.Path.{_≡_, _∙_}
 use mathlib.Core.List.{List}
 use Prim.Native.Nat.{ℕ}
 use native.Mathlib.Omega.{arith}
+use borrow.Author.Needs.{needs}
 use Rattle.basin.specs.declared.file.Loaded.{Loaded}
 use Rattle.basin.specs.File.{loadCall}
 use Rattle.basin.specs.Account.{Demand3}
-use Rattle.basin.proofs.AccountLaws.{demand-3}
-use Rattle.basin.proofs.FileLaws.{load-short, load-n, load-m, load-size, load-word, load-all, out-le}
-use borrow.Author.Needs.{needs}
+use Rattle.basin.proofs.Account.{demand-3}
+use Rattle.basin.proofs.file.FileLaws.{load-short, load-n, load-m, load-size, load-word, load-all, out-le}
 use Rattle.basin.proofs.file.load.Statement.{statement}
 use Rattle.basin.proofs.file.load.Tie as tie
 
 -- the answer's equation, and with it demand 3
-both : (f : List ℕ) {r : Loaded} → r ≡ loadCall f → (r ≡ loadCall f) × Demand3 f r
-both f e = (e, demand-3 f e)
+answered : (f : List ℕ) {loaded : Loaded} → loaded ≡ loadCall f → (loaded ≡ loadCall f) × Demand3 f loaded
+answered f e = (e, demand-3 f e)
 
 refuse-requires : tie.Need-refuse-requires
 refuse-requires c κs = search needs
 
 returns : tie.Need-returns
-returns c = both _ (c .refuse .ensures ∙ load-short _ (c .before .if1 .taken))
+returns c = answered _ (c .refuse .ensures ∙ load-short _ (c .before .if1 .taken))
 
-word-at-requires : tie.Need-word-at-requires
-word-at-requires c κs = search needs
+word-requires : tie.Need-word-requires
+word-requires c κs = search needs
 
 refuse-requires-2 : tie.Need-refuse-requires-2
 refuse-requires-2 c κs = search needs
 
 returns-2 : tie.Need-returns-2
 returns-2 c =
-    let read = c .before .before in
-    both _
-    (c .refuse2 .ensures ∙ load-n _ (read .before .if1 .left) (read .word-at .ensures .0) (λ l h. omega arith))
+    let read-n = c .before .before in
+    answered _ (c .refuse2 .ensures ∙ load-n _ (read-n .before .if1 .left) (read-n .word .ensures .0) (λ l h. omega arith))
 
 refuse-requires-3 : tie.Need-refuse-requires-3
 refuse-requires-3 c κs = search needs
 
 returns-3 : tie.Need-returns-3
 returns-3 c =
-    let read = c .before .before .before in
-    both _
-    (c .refuse3 .ensures ∙ load-n _ (read .before .if1 .left) (read .word-at .ensures .0) (λ l h. omega arith))
+    let read-n = c .before .before .before in
+    answered _ (c .refuse3 .ensures ∙ load-n _ (read-n .before .if1 .left) (read-n .word .ensures .0) (λ l h. omega arith))
 
-word-at-requires-2 : tie.Need-word-at-requires-2
-word-at-requires-2 c κs = search needs
+word-requires-2 : tie.Need-word-requires-2
+word-requires-2 c κs = search needs
 
 refuse-requires-4 : tie.Need-refuse-requires-4
 refuse-requires-4 c κs = search needs
 
 returns-4 : tie.Need-returns-4
 returns-4 c =
-    let read = c .before .before in
-    let least = read .before .before in
-    let first = least .before in
-    both _
+    let read-m = c .before .before in
+    let read-n = read-m .before .before .before in
+    answered _
     (c .refuse4 .ensures
-    ∙ load-m _ (first .before .if1 .left) (first .word-at .ensures .0) (least .if2 .left) (read .before .if3 .left) (read .word-at2 .ensures .0)
+    ∙ load-m _ (read-n .before .if1 .left) (read-n .word .ensures .0) (omega arith) (omega arith) (read-m .word2 .ensures .0)
     (c .before .if4 .taken))
 
 mul-words : tie.Need-mul-words
@@ -79,13 +76,12 @@ refuse-requires-5 c κs = search needs
 
 returns-5 : tie.Need-returns-5
 returns-5 c =
-    let read = c .before .before .before in
-    let least = read .before .before in
-    let first = least .before in
-    both _
+    let read-m = c .before .before .before in
+    let read-n = read-m .before .before .before in
+    answered _
     (c .refuse5 .ensures
-    ∙ load-size _ (first .before .if1 .left) (first .word-at .ensures .0) (least .if2 .left) (read .before .if3 .left)
-    (read .word-at2 .ensures .0) (c .before .before .if4 .left) (c .before .if5 .taken))
+    ∙ load-size _ (read-n .before .if1 .left) (read-n .word .ensures .0) (omega arith) (omega arith) (read-m .word2 .ensures .0) (omega arith)
+    (c .before .if5 .taken))
 
 first-out-requires : tie.Need-first-out-requires
 first-out-requires c κs = search needs
@@ -98,14 +94,13 @@ refuse-requires-6 c κs = search needs
 
 returns-6 : tie.Need-returns-6
 returns-6 c =
-    let read = c .before .before .before .before .before in
-    let least = read .before .before in
-    let first = least .before in
-    both _
+    let looked = c .before .before in
+    let read-m = looked .before .before .before in
+    let read-n = read-m .before .before .before in
+    answered _
     (c .refuse6 .ensures
-    ∙ load-word _ (first .before .if1 .left) (first .word-at .ensures .0) (least .if2 .left) (read .before .if3 .left)
-    (read .word-at2 .ensures .0) (c .before .before .before .before .if4 .left) (c .before .before .before .if5 .left)
-    (c .before .before .first-out .ensures) (c .before .if6 .taken))
+    ∙ load-word _ (read-n .before .if1 .left) (read-n .word .ensures .0) (omega arith) (omega arith) (read-m .word2 .ensures .0) (omega arith)
+    (looked .before .if5 .left) (looked .first-out .ensures) (c .before .if6 .taken))
 
 subs-of-requires : tie.Need-subs-of-requires
 subs-of-requires c κs = search needs
@@ -115,13 +110,13 @@ reaches-of-requires c κs = search needs
 
 returns-7 : tie.Need-returns-7
 returns-7 c =
-    let read = c .before .before .before .before .before .before in
-    let least = read .before .before in
-    let first = least .before in
-    both _
-    (load-all _ (first .before .if1 .left) (first .word-at .ensures .0) (least .if2 .left) (read .before .if3 .left)
-    (read .word-at2 .ensures .0) (c .before .before .before .before .before .if4 .left) (c .before .before .before .before .if5 .left)
-    (c .before .before .before .first-out .ensures) (c .before .before .if6 .left) (c .before .subs-of .ensures) (c .reaches-of .ensures))
+    let passed = c .before .before in
+    let looked = passed .before in
+    let read-m = looked .before .before .before in
+    let read-n = read-m .before .before .before in
+    answered _
+    (load-all _ (read-n .before .if1 .left) (read-n .word .ensures .0) (omega arith) (omega arith) (read-m .word2 .ensures .0) (omega arith)
+    (looked .before .if5 .left) (looked .first-out .ensures) (passed .if6 .left) (c .before .subs-of .ensures) (c .reaches-of .ensures))
 
 pub load-spec : {M : Type 1} → statement M
 load-spec =
@@ -129,12 +124,12 @@ load-spec =
     (tie.spec
     refuse-requires
     returns
-    word-at-requires
+    word-requires
     refuse-requires-2
     returns-2
     refuse-requires-3
     returns-3
-    word-at-requires-2
+    word-requires-2
     refuse-requires-4
     returns-4
     mul-words

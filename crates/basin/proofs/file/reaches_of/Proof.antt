@@ -1,15 +1,15 @@
--- `basin::file::reaches_of` meets its contract. The invariant of its loop: j reaches are filled in, the others are zero. The measure
--- is the count of reaches that are left. Assumes nothing.
+-- `basin::file::reaches_of` meets its contract. The loop's invariant: j reaches are filled in, the others are zero. Assumes nothing.
 use Prim.Native.Nat.{_-_}
 use native.Mathlib.Omega.{arith}
-use Rattle.basin.specs.Basin.{blankReach}
-use Rattle.basin.specs.File.{fileReach, reachStart}
-use Rattle.basin.proofs.TableLaws.{Filling, fill-begin, fill-on, fill-end}
+use lib.ListN.{replicate}
+use Rattle.common.proofs.Loops.{Filling, fill-table, fill-turn, fill-end}
+use Rattle.basin.specs.Reach.{blankReach}
+use Rattle.basin.specs.File.{fileReach}
 use Rattle.basin.proofs.file.reaches_of.Statement.{statement}
 use Rattle.basin.proofs.file.reaches_of.Tie as tie
 
 abbrev Inv-loop : tie.InvT-loop
-Inv-loop bytes n m reaches₀ j₀ reaches j = Filling (λ k. fileReach bytes (reachStart n k)) blankReach 31 m j reaches
+Inv-loop bytes n m reaches₀ j₀ reaches j = Filling (fileReach bytes n) (replicate 31 blankReach) m j reaches
 
 abbrev μ-loop : tie.MeasureT-loop
 μ-loop bytes n m reaches₀ j₀ reaches j = m - j
@@ -18,19 +18,7 @@ blank-reach-requires : tie.Need-blank-reach-requires Inv-loop μ-loop
 blank-reach-requires c κs = tt
 
 loop-holds : tie.Need-loop-holds Inv-loop μ-loop
-loop-holds c = fill-begin (c .blank-reach .ensures)
-
-mul-reach-at : tie.Need-mul-reach-at Inv-loop μ-loop
-mul-reach-at c = omega arith
-
-add-reach-at : tie.Need-add-reach-at Inv-loop μ-loop
-add-reach-at c = omega arith
-
-mul-reach-at-2 : tie.Need-mul-reach-at-2 Inv-loop μ-loop
-mul-reach-at-2 c = omega arith
-
-add-reach-at-2 : tie.Need-add-reach-at-2 Inv-loop μ-loop
-add-reach-at-2 c = omega arith
+loop-holds c = fill-table 31 (c .blank-reach .ensures)
 
 reach-at-requires : tie.Need-reach-at-requires Inv-loop μ-loop
 reach-at-requires c κs = omega arith
@@ -48,7 +36,7 @@ loop-less : tie.Need-loop-less Inv-loop μ-loop
 loop-less c = omega arith
 
 loop-again : tie.Need-loop-again Inv-loop μ-loop
-loop-again c = fill-on (c .before .before .loop .inv) (c .before .loop-test .taken) (c .reach-at .ensures)
+loop-again c = fill-turn (c .before .before .loop .inv) (c .before .loop-test .taken) (c .reach-at .ensures)
 
 returns : tie.Need-returns Inv-loop μ-loop
 returns c = fill-end (c .before .loop .inv) (c .loop-test .left)
@@ -61,10 +49,6 @@ reaches-of-spec =
     μ-loop
     blank-reach-requires
     loop-holds
-    mul-reach-at
-    add-reach-at
-    mul-reach-at-2
-    add-reach-at-2
     reach-at-requires
     mul-reaches
     array-set-from-reaches

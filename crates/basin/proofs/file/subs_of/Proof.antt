@@ -1,30 +1,24 @@
--- `basin::file::subs_of` meets its contract. The invariant of its loop: i records are filled in, the others are zero. The measure is
--- the count of sub-basins that are left. Assumes nothing.
+-- `basin::file::subs_of` meets its contract. The loop's invariant: i records are filled in, the others are zero. Assumes nothing.
 use Prim.Native.Nat.{_-_}
 use native.Mathlib.Omega.{arith}
-use Rattle.basin.specs.Basin.{blankSub}
-use Rattle.basin.specs.File.{fileSub, subStart}
-use Rattle.basin.proofs.TableLaws.{Filling, fill-begin, fill-on, fill-end}
+use lib.ListN.{replicate}
+use Rattle.common.proofs.Loops.{Filling, fill-table, fill-turn, fill-end}
+use Rattle.subbasin.specs.Record.{blankSub}
+use Rattle.basin.specs.File.{fileSub}
 use Rattle.basin.proofs.file.subs_of.Statement.{statement}
 use Rattle.basin.proofs.file.subs_of.Tie as tie
 
 abbrev Inv-loop : tie.InvT-loop
-Inv-loop bytes n subs₀ i₀ subs i = Filling (λ k. fileSub bytes (subStart k)) blankSub 32 n i subs
+Inv-loop bytes n subs₀ i₀ subs i = Filling (fileSub bytes) (replicate 32 blankSub) n i subs
 
 abbrev μ-loop : tie.MeasureT-loop
 μ-loop bytes n subs₀ i₀ subs i = n - i
 
-sub-of-requires : tie.Need-sub-of-requires Inv-loop μ-loop
-sub-of-requires c κs = tt
+of-words-requires : tie.Need-of-words-requires Inv-loop μ-loop
+of-words-requires c κs = tt
 
 loop-holds : tie.Need-loop-holds Inv-loop μ-loop
-loop-holds c = fill-begin (c .sub-of .ensures)
-
-mul-sub-at : tie.Need-mul-sub-at Inv-loop μ-loop
-mul-sub-at c = omega arith
-
-add-sub-at : tie.Need-add-sub-at Inv-loop μ-loop
-add-sub-at c = omega arith
+loop-holds c = fill-table 32 (c .of-words .ensures)
 
 sub-at-requires : tie.Need-sub-at-requires Inv-loop μ-loop
 sub-at-requires c κs = omega arith
@@ -42,7 +36,7 @@ loop-less : tie.Need-loop-less Inv-loop μ-loop
 loop-less c = omega arith
 
 loop-again : tie.Need-loop-again Inv-loop μ-loop
-loop-again c = fill-on (c .before .before .loop .inv) (c .before .loop-test .taken) (c .sub-at .ensures)
+loop-again c = fill-turn (c .before .before .loop .inv) (c .before .loop-test .taken) (c .sub-at .ensures)
 
 returns : tie.Need-returns Inv-loop μ-loop
 returns c = fill-end (c .before .loop .inv) (c .loop-test .left)
@@ -53,10 +47,8 @@ subs-of-spec =
     (tie.spec
     Inv-loop
     μ-loop
-    sub-of-requires
+    of-words-requires
     loop-holds
-    mul-sub-at
-    add-sub-at
     sub-at-requires
     mul-subs
     array-set-from-subs

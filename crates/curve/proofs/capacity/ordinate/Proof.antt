@@ -1,9 +1,9 @@
 -- `curve::capacity::ordinate` meets its contract. Assumes nothing.
 use mathlib.Core.Path.{sym, ap, _∙_}
 use native.Mathlib.Omega.{arith}
-use Rattle.curve.specs.Capacity.{value}
-use Rattle.curve.proofs.CallLaws.{outside-yes, outside-no, ordinate-accepts, ordinate-refuses}
 use borrow.Author.Needs.{needs}
+use Rattle.curve.specs.Capacity.{value}
+use Rattle.curve.proofs.capacity.CallLaws.{outside-yes, outside-no, ordinate-accepts, ordinate-refuses}
 use Rattle.curve.proofs.capacity.ordinate.Statement.{statement}
 use Rattle.curve.proofs.capacity.ordinate.Tie as tie
 
@@ -14,7 +14,9 @@ refuse-requires : tie.Need-refuse-requires
 refuse-requires c κs = search needs
 
 returns : tie.Need-returns
-returns c = c .refuse .ensures ∙ sym (ordinate-refuses _ _ _ _ (λ h _. outside-yes _ _ _ (c .before .before .outside .ensures) (c .before .if1 .taken) h))
+returns c =
+    c .refuse .ensures
+    ∙ sym (ordinate-refuses _ _ _ _ (λ h _. outside-yes _ _ _ (c .before .before .outside .ensures) (c .before .if1 .taken) h))
 
 refuse-requires-2 : tie.Need-refuse-requires-2
 refuse-requires-2 c κs = search needs
@@ -29,7 +31,9 @@ accept-requires : tie.Need-accept-requires
 accept-requires c κs = search needs
 
 returns-3 : tie.Need-returns-3
-returns-3 c = c .accept .ensures ∙ ap (λ v. value v) (c .before .ordinate-of .ensures) ∙ sym (ordinate-accepts _ _ _ _ (outside-no _ _ _ (c .before .before .before .before .outside .ensures) (c .before .before .before .if1 .left)) (omega arith))
+returns-3 c =
+    let inside = outside-no _ _ _ (c .before .before .before .before .outside .ensures) (c .before .before .before .if1 .left) in
+    c .accept .ensures ∙ ap (λ v. value v) (c .before .ordinate-of .ensures) ∙ sym (ordinate-accepts _ _ _ _ inside (omega arith))
 
 pub ordinate-spec : {M : Type 1} → statement M
 ordinate-spec =

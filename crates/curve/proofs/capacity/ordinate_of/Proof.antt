@@ -4,13 +4,13 @@ use mathlib.Core.Path.{_≡_, sym, ap, subst, _∙_}
 use Prim.Native.Nat.{ℕ, _+_, _-_, _*_, _/_, _≤_, _<_}
 use native.Mathlib.Nat.{div-le-of-le-mul}
 use native.Mathlib.Omega.{arith}
-use Rattle.curve.specs.Shares.{one}
+use Rattle.common.specs.Shares.{one}
 use Rattle.curve.specs.Capacity.{held, ordinate}
-use Rattle.curve.proofs.HeldLaws.{held-zero, held-top, ordinate-is, ordinate-full}
+use Rattle.curve.proofs.capacity.HeldLaws.{held-zero, held-top, ordinate-is, ordinate-full}
 use Rattle.curve.proofs.capacity.ordinate_of.Statement.{statement}
 use Rattle.curve.proofs.capacity.ordinate_of.Tie as tie
 
-need-le : (c w : ℕ) → ((c - w) * one + c - 1) / c ≤ 65537
+need-le : (c w : ℕ) → ((c - w) * one + c - 1) / c ≤ one + 1
 need-le c w = div-le-of-le-mul c (omega arith)
 
 narrowed : (c m e w lo hi : ℕ) → 0 < m → (lo < hi) × (hi ≤ m) × (held c m e lo ≤ w) × (w < held c m e hi) → hi - lo ≤ 1 → lo ≡ ordinate c m e w
@@ -43,7 +43,7 @@ div-need : tie.Need-div-need Inv-loop μ-loop
 div-need c = omega arith
 
 guess-requires : tie.Need-guess-requires Inv-loop μ-loop
-guess-requires c κs = (c .before .pre .2, c .before .pre .3, c .before .pre .4, need-le (c .before .args .c) (c .before .args .w), omega arith, omega arith)
+guess-requires c κs = omega (arith, need-le (c .before .args .c) (c .before .args .w))
 
 loop-holds : tie.Need-loop-holds Inv-loop μ-loop
 loop-holds c =
@@ -61,8 +61,8 @@ point-at-requires c κs = omega arith
 
 guess-requires-2 : tie.Need-guess-requires-2 Inv-loop μ-loop
 guess-requires-2 c κs =
-    let pre = c .before .before .before .before .before .before .pre in
-    (pre .2, pre .3, pre .4, need-le (c .before .before .before .before .before .before .args .c) (c .before .before .before .before .before .before .args .w), c .point-at .ensures .1, c .point-at .ensures .2)
+    let at = c .before .before .before .before .before .before .args in
+    omega (arith, need-le (at .c) (at .w))
 
 one-less-requires : tie.Need-one-less-requires Inv-loop μ-loop
 one-less-requires c κs = tt
@@ -81,8 +81,9 @@ loop-again-2 c = omega (arith, c .before .before .before .before .point-at .ensu
 
 returns-2 : tie.Need-returns-2 Inv-loop μ-loop
 returns-2 c =
-    let at = c .before .before .before .before .args in
-    narrowed (at .c) (at .m) (at .e) (at .w) (c .before .loop .lo) (c .before .loop .hi) (c .before .before .before .before .pre .1) (c .before .loop .inv) (c .if2 .taken)
+    let start = c .before .before .before .before in
+    narrowed (start .args .c) (start .args .m) (start .args .e) (start .args .w) (c .before .loop .lo) (c .before .loop .hi) (start .pre .1)
+    (c .before .loop .inv) (c .if2 .taken)
 
 pub ordinate-of-spec : {M : Type 1} → statement M
 ordinate-of-spec =

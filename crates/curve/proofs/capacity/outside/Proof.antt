@@ -2,7 +2,7 @@
 use mathlib.Core.Path.{sym, ap}
 use mathlib.Core.Bool.{not}
 use native.Mathlib.Omega.{arith}
-use Rattle.curve.proofs.CallLaws.{curve-in, curve-out}
+use Rattle.curve.proofs.capacity.CallLaws.{curve-in, curve-out}
 use Rattle.curve.proofs.capacity.outside.Statement.{statement}
 use Rattle.curve.proofs.capacity.outside.Tie as tie
 

@@ -3,7 +3,7 @@ use native.Mathlib.Omega.{arith}
 use borrow.Author.Needs.{needs}
 use borrow.Author.Tests.{eq-eqb, ne-eqb}
 use Rattle.curve.specs.Capacity.{part}
-use Rattle.curve.proofs.PowerLaws.{shares-le}
+use Rattle.curve.proofs.capacity.PowerLaws.{shares-le}
 use Rattle.curve.proofs.capacity.part_of.Statement.{statement}
 use Rattle.curve.proofs.capacity.part_of.Tie as tie
 

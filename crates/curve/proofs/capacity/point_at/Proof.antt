@@ -1,28 +1,19 @@
 -- `curve::capacity::point_at` meets its contract: the share is at most 65,536, and so is its power. Assumes nothing.
-use mathlib.Core.Path.{_≡_}
-use Prim.Native.Nat.{ℕ, _-_, _*_, _/_, _≤_, _<_}
+use Prim.Native.Nat.{ℕ, _*_, _/_, _≤_}
 use native.Mathlib.Nat.{mul-le-mul, mul-le-mul-left}
 use native.Mathlib.Omega.{arith}
-use Rattle.curve.specs.Shares.{one}
-use Rattle.curve.specs.Capacity.{power, above, held}
-use Rattle.curve.proofs.HeldLaws.{above-le-one}
 use borrow.Author.Needs.{needs}
+use Rattle.common.specs.Shares.{one}
+use Rattle.curve.specs.Capacity.{shareAbove, held, mostC}
+use Rattle.curve.proofs.capacity.HeldLaws.{share-above-le-one}
 use Rattle.curve.proofs.capacity.point_at.Statement.{statement}
 use Rattle.curve.proofs.capacity.point_at.Tie as tie
 
-share-le : (m a : ℕ) → 0 < m → (m - a) * one / m ≤ one
-unfolding above
-share-le m a z = above-le-one m a z
-
-scaled : (c x : ℕ) → c ≤ 500000 → x ≤ one → c * x ≤ 500000 * one
-scaled c x h k = mul-le-mul {n₁ = c} {m₁ = x} {n₂ = 500000} {m₂ = one} h k
+scaled : (c x : ℕ) → c ≤ mostC → x ≤ one → c * x ≤ mostC * one
+scaled c x h k = mul-le-mul {n₁ = c} {m₁ = x} {n₂ = mostC} {m₂ = one} h k
 
 part-le : (c x : ℕ) → x ≤ one → c * x / one ≤ c
 part-le c x k = omega (arith, mul-le-mul-left c k)
-
-holds : (c m e a x : ℕ) → x ≡ power ((m - a) * one / m) e → c - c * x / one ≡ held c m e a
-unfolding held above
-holds c m e a x h = rw h
 
 sub-t : tie.Need-sub-t
 sub-t c = search needs
@@ -34,7 +25,8 @@ div-t : tie.Need-div-t
 div-t c = search needs
 
 power-of-requires : tie.Need-power-of-requires
-power-of-requires c κs = share-le (c .args .m) (c .args .a) (c .pre .1)
+unfolding shareAbove
+power-of-requires c κs = share-above-le-one (c .args .m) (c .args .a) (c .pre .1)
 
 mul-t7 : tie.Need-mul-t7
 mul-t7 c = omega (arith, scaled (c .before .args .c) (c .power-of .result) (c .before .pre .0) (c .power-of .ensures .1))
@@ -43,7 +35,8 @@ sub-t9 : tie.Need-sub-t9
 sub-t9 c = part-le (c .before .args .c) (c .power-of .result) (c .power-of .ensures .1)
 
 returns : tie.Need-returns
-returns c = (holds (c .before .args .c) _ _ (c .before .args .a) _ (c .power-of .ensures .0), share-le (c .before .args .m) (c .before .args .a) (c .before .pre .1), c .power-of .ensures .1)
+unfolding held shareAbove
+returns c = (rw (c .power-of .ensures .0), share-above-le-one (c .before .args .m) (c .before .args .a) (c .before .pre .1), c .power-of .ensures .1)
 
 pub point-at-spec : {M : Type 1} → statement M
 point-at-spec = tie.close (tie.spec sub-t mul-t div-t power-of-requires mul-t7 sub-t9 returns)

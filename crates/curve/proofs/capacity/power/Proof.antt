@@ -1,9 +1,9 @@
 -- `curve::capacity::power` meets its contract. Assumes nothing.
 use mathlib.Core.Path.{sym, ap, _∙_}
 use native.Mathlib.Omega.{arith}
-use Rattle.curve.specs.Capacity.{value}
-use Rattle.curve.proofs.CallLaws.{power-accepts, power-refuses}
 use borrow.Author.Needs.{needs}
+use Rattle.curve.specs.Capacity.{value}
+use Rattle.curve.proofs.capacity.CallLaws.{power-accepts, power-refuses}
 use Rattle.curve.proofs.capacity.power.Statement.{statement}
 use Rattle.curve.proofs.capacity.power.Tie as tie
 

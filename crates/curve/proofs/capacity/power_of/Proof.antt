@@ -1,10 +1,10 @@
 -- `curve::capacity::power_of` meets its contract: where the lower bits of e are 0, the parts that are left out change nothing. Assumes nothing.
-use mathlib.Core.Path.{_≡_, sym, ap, ap₂, _∙_}
+use mathlib.Core.Path.{_≡_, _∙_}
 use Prim.Native.Nat.{ℕ, _/_, _%_}
 use native.Mathlib.Omega.{arith}
 use borrow.Author.Tests.{ne-eqb}
-use Rattle.curve.specs.Capacity.{root, whole, part, power}
 use borrow.Author.Needs.{needs}
+use Rattle.curve.specs.Capacity.{root, whole, part, power}
 use Rattle.curve.proofs.capacity.power_of.Statement.{statement}
 use Rattle.curve.proofs.capacity.power_of.Tie as tie
 
@@ -36,33 +36,11 @@ module _ (t e : ℕ) where
   no-bits : e % 16 ≡ 0 → power t e ≡ whole t (e / 16)
   no-bits h = bits-8 (omega arith) ∙ part-out e 8 (root t) (whole t (e / 16)) (omega arith)
 
--- a part of known parts
-joined : (e b : ℕ) {r s x y z : ℕ} → z ≡ part e b r x → r ≡ s → x ≡ y → z ≡ part e b s y
-joined e b h p q = h ∙ ap₂ (part e b) p q
-
-part-1 : (c : tie.After-part-of) → c .part-of .result ≡ after-8 (c .before .before .before .before .args .t) (c .before .before .before .before .args .e)
-part-1 c = joined _ 8 (c .part-of .ensures .0) (c .before .root-of .ensures .0) (c .before .before .before .whole-of .ensures .0)
-
-root-2 : (c : tie.After-root-of2) → c .root-of2 .result ≡ root (root (c .before .before .before .before .before .before .args .t))
-root-2 c = c .root-of2 .ensures .0 ∙ ap root (c .before .before .before .root-of .ensures .0)
-
-part-2 : (c : tie.After-part-of2)
-    → c .part-of2 .result ≡ after-4 (c .before .before .before .before .before .before .before .args .t) (c .before .before .before .before .before .before .before .args .e)
-part-2 c = joined _ 4 (c .part-of2 .ensures .0) (root-2 (c .before)) (part-1 (c .before .before .before))
-
-root-3 : (c : tie.After-root-of3) → c .root-of3 .result ≡ root (root (root (c .before .before .before .before .before .before .before .before .before .args .t)))
-root-3 c = c .root-of3 .ensures .0 ∙ ap root (root-2 (c .before .before .before))
-
-part-3 : (c : tie.After-part-of3)
-    → c .part-of3 .result
-    ≡ after-2 (c .before .before .before .before .before .before .before .before .before .before .args .t) (c .before .before .before .before .before .before .before .before .before .before .args .e)
-part-3 c = joined _ 2 (c .part-of3 .ensures .0) (root-3 (c .before)) (part-2 (c .before .before .before))
-
 whole-of-requires : tie.Need-whole-of-requires
 whole-of-requires c κs = search needs
 
 returns : tie.Need-returns
-returns c = (c .before .whole-of .ensures .0 ∙ sym (no-bits _ _ (c .if1 .taken)), c .before .whole-of .ensures .1)
+returns c = let at = c .before .before .args in (cc (no-bits (at .t) (at .e) (c .if1 .taken)), c .before .whole-of .ensures .1)
 
 root-of-requires : tie.Need-root-of-requires
 root-of-requires c κs = search needs
@@ -71,7 +49,9 @@ part-of-requires : tie.Need-part-of-requires
 part-of-requires c κs = search needs
 
 returns-2 : tie.Need-returns-2
-returns-2 c = (part-1 (c .before) ∙ sym (bits-8 _ _ (c .if2 .taken)), c .before .part-of .ensures .1)
+returns-2 c =
+    let at = c .before .before .before .before .before .args in
+    (cc (bits-8 (at .t) (at .e) (c .if2 .taken)), c .before .part-of .ensures .1)
 
 root-of-requires-2 : tie.Need-root-of-requires-2
 root-of-requires-2 c κs = search needs
@@ -80,7 +60,9 @@ part-of-requires-2 : tie.Need-part-of-requires-2
 part-of-requires-2 c κs = search needs
 
 returns-3 : tie.Need-returns-3
-returns-3 c = (part-2 (c .before) ∙ sym (bits-4 _ _ (c .if3 .taken)), c .before .part-of2 .ensures .1)
+returns-3 c =
+    let at = c .before .before .before .before .before .before .before .before .args in
+    (cc (bits-4 (at .t) (at .e) (c .if3 .taken)), c .before .part-of2 .ensures .1)
 
 root-of-requires-3 : tie.Need-root-of-requires-3
 root-of-requires-3 c κs = search needs
@@ -89,7 +71,9 @@ part-of-requires-3 : tie.Need-part-of-requires-3
 part-of-requires-3 c κs = search needs
 
 returns-4 : tie.Need-returns-4
-returns-4 c = (part-3 (c .before) ∙ sym (bits-2 _ _ (c .if4 .taken)), c .before .part-of3 .ensures .1)
+returns-4 c =
+    let at = c .before .before .before .before .before .before .before .before .before .before .before .args in
+    (cc (bits-2 (at .t) (at .e) (c .if4 .taken)), c .before .part-of3 .ensures .1)
 
 root-of-requires-4 : tie.Need-root-of-requires-4
 root-of-requires-4 c κs = search needs
@@ -99,7 +83,7 @@ part-of-requires-4 c κs = search needs
 
 returns-5 : tie.Need-returns-5
 unfolding power
-returns-5 c = (joined _ 1 (c .part-of4 .ensures .0) (c .before .root-of4 .ensures .0 ∙ ap root (root-3 (c .before .before .before .before))) (part-3 (c .before .before .before)), c .part-of4 .ensures .1)
+returns-5 c = (cc, c .part-of4 .ensures .1)
 
 pub power-of-spec : {M : Type 1} → statement M
 power-of-spec =

@@ -1,9 +1,9 @@
 -- `curve::capacity::root` meets its contract. Assumes nothing.
 use mathlib.Core.Path.{sym, ap, _∙_}
 use native.Mathlib.Omega.{arith}
-use Rattle.curve.specs.Capacity.{value}
-use Rattle.curve.proofs.CallLaws.{root-accepts, root-refuses}
 use borrow.Author.Needs.{needs}
+use Rattle.curve.specs.Capacity.{value}
+use Rattle.curve.proofs.capacity.CallLaws.{root-accepts, root-refuses}
 use Rattle.curve.proofs.capacity.root.Statement.{statement}
 use Rattle.curve.proofs.capacity.root.Tie as tie
 

@@ -4,9 +4,9 @@ use mathlib.Core.Path.{_≡_, refl, sym, subst}
 use Prim.Native.Nat.{ℕ, zero, suc, _+_, _*_, _/_, _≤_, _<_}
 use native.Mathlib.Nat.{div-le-self, mul-div-cancel}
 use native.Mathlib.Omega.{arith}
-use Rattle.curve.specs.Shares.{one}
-use Rattle.curve.proofs.PowerLaws.{shares-le}
-use Rattle.curve.proofs.RootLaws.{root-unique, newton-above, newton-less}
+use Rattle.common.specs.Shares.{one}
+use Rattle.curve.proofs.capacity.PowerLaws.{shares-le}
+use Rattle.curve.proofs.capacity.RootLaws.{root-unique, newton-above, newton-less}
 use Rattle.curve.proofs.capacity.root_of.Statement.{statement}
 use Rattle.curve.proofs.capacity.root_of.Tie as tie
 

@@ -3,9 +3,9 @@ use mathlib.Core.Path.{_≡_, refl, ap, _∙_}
 use Prim.Native.Nat.{ℕ, _+_, _-_, _*_, _/_, _≤_}
 use native.Mathlib.Numerals.{add-one}
 use native.Mathlib.Omega.{arith}
-use Rattle.curve.specs.Shares.{one}
+use Rattle.common.specs.Shares.{one}
 use Rattle.curve.specs.Capacity.{whole}
-use Rattle.curve.proofs.PowerLaws.{shares-le}
+use Rattle.curve.proofs.capacity.PowerLaws.{shares-le}
 use Rattle.curve.proofs.capacity.whole_of.Statement.{statement}
 use Rattle.curve.proofs.capacity.whole_of.Tie as tie
 

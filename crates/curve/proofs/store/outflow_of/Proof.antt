@@ -4,9 +4,9 @@ use mathlib.Core.Path.{_≡_, ap}
 use Prim.Native.Nat.{ℕ, _+_, _*_, _/_, _%_, _≤_, _^_}
 use native.Mathlib.Nat.{mul-le-mul, div-add-mod}
 use native.Mathlib.Omega.{arith}
-use Rattle.curve.specs.Shares.{one}
-use Rattle.curve.specs.Store.{outflow}
-use Rattle.curve.proofs.StoreLaws.{store-within}
+use Rattle.common.specs.Shares.{one}
+use Rattle.curve.specs.Store.{outflow, mostInflow}
+use Rattle.curve.proofs.store.StoreLaws.{store-within}
 use Rattle.curve.proofs.store.outflow_of.Statement.{statement}
 use Rattle.curve.proofs.store.outflow_of.Tie as tie
 
@@ -15,7 +15,7 @@ record Parts (a x : ℕ) : Type 0 where
   low : a * (x % one) ≤ one * 65535
   high : a * (x / one) ≤ one * 2 ^ 46
 
-parts : {a : ℕ} (x : ℕ) → a ≤ one → x ≤ 2 ^ 62 → Parts a x
+parts : {a : ℕ} (x : ℕ) → a ≤ one → x ≤ mostInflow → Parts a x
 parts {a} x h k =
     record {
       low = mul-le-mul {n₁ = a} {m₁ = x % one} {n₂ = one} {m₂ = 65535} h (omega arith);

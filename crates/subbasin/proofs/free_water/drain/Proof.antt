@@ -3,12 +3,12 @@ use mathlib.Core.Path.{_≡_}
 use Prim.Native.Nat.{ℕ, _+_, _-_, _*_, _/_, _≤_}
 use native.Mathlib.Nat.{mul-le-mul}
 use native.Mathlib.Omega.{arith}
-use Rattle.curve.specs.Shares.{one}
+use Rattle.common.specs.Shares.{one}
 use Rattle.subbasin.specs.declared.record.Parameters.{Parameters}
 use Rattle.subbasin.specs.declared.free_water.Parted.{Parted}
-use Rattle.subbasin.specs.Limits.{FreeIn}
+use Rattle.subbasin.specs.Workers.{FreeIn}
 use Rattle.subbasin.specs.FreeWater.{keep, parted}
-use Rattle.subbasin.proofs.FreeWaterLaws.{Keeps, keeps, drains-most}
+use Rattle.subbasin.proofs.free_water.FreeWaterLaws.{Keeps, keeps, drains-most}
 use borrow.Author.Needs.{needs}
 use Rattle.subbasin.proofs.free_water.drain.Statement.{statement}
 use Rattle.subbasin.proofs.free_water.drain.Tie as tie

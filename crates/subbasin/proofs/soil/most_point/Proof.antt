@@ -4,7 +4,7 @@ use Prim.Native.Nat.{_*_, _≤_}
 use native.Mathlib.Nat.{mul-le-mul}
 use native.Mathlib.Omega.{arith}
 use Rattle.subbasin.specs.declared.record.Parameters.{Parameters}
-use Rattle.subbasin.specs.Limits.{SoilIn}
+use Rattle.subbasin.specs.Workers.{SoilIn}
 use Rattle.subbasin.specs.Soil.{wm, mm}
 use borrow.Author.Needs.{needs}
 use Rattle.subbasin.proofs.soil.most_point.Statement.{statement}

@@ -4,13 +4,13 @@ use Prim.Native.Nat.{ℕ, _-_, _*_, _/_, _≤_}
 use native.Mathlib.Nat.{mul-le-mul}
 use native.Mathlib.Omega.{arith}
 use borrow.Author.Tests.{lt-ltb, le-ltb}
-use Rattle.curve.specs.Shares.{one}
+use Rattle.common.specs.Shares.{one}
 use Rattle.subbasin.specs.declared.record.Parameters.{Parameters}
 use Rattle.subbasin.specs.declared.soil.Layers.{Layers}
 use Rattle.subbasin.specs.declared.soil.Runoff.{Runoff}
-use Rattle.subbasin.specs.Limits.{SoilIn, LayersIn}
+use Rattle.subbasin.specs.Workers.{SoilIn, LayersIn}
 use Rattle.subbasin.specs.Soil.{tension, rb, gain, filled, runoff}
-use Rattle.subbasin.proofs.SoilLaws.{Gains, rb-most, gain-in}
+use Rattle.subbasin.proofs.soil.SoilLaws.{Gains, rb-most, gain-in}
 use borrow.Author.Needs.{needs}
 use Rattle.subbasin.proofs.soil.run_off.Statement.{statement}
 use Rattle.subbasin.proofs.soil.run_off.Tie as tie

@@ -3,22 +3,22 @@ use mathlib.Core.Path.{_≡_, ap, ap₂, _∙_}
 use mathlib.Core.List.{_∷_}
 use Prim.Native.Nat.{ℕ, _+_, _*_, _^_, _≤_}
 use native.Mathlib.Omega.{arith}
-use Rattle.curve.specs.Shares.{one}
+use Rattle.common.specs.Shares.{one}
 use Rattle.curve.specs.declared.store.Store.{Store}
 use Rattle.curve.specs.declared.store.Released.{Released}
 use Rattle.curve.specs.Store.{released, storeCall}
-use Rattle.curve.proofs.StoreLaws.{store-accepts, store-within}
+use Rattle.curve.proofs.store.StoreLaws.{store-accepts, store-within}
 use Rattle.subbasin.specs.declared.record.SubBasin.{SubBasin}
 use Rattle.subbasin.specs.declared.soil.Evaporated.{Evaporated}
 use Rattle.subbasin.specs.declared.soil.Runoff.{Runoff}
 use Rattle.subbasin.specs.declared.free_water.Parted.{Parted}
-use Rattle.subbasin.specs.declared.lag.LagLine.{LagLine}
+use Rattle.subbasin.specs.declared.record.LagLine.{LagLine}
 use Rattle.subbasin.specs.declared.step.Stepped.{Stepped}
 use Rattle.subbasin.specs.Lag.{leaving, entered}
 use Rattle.subbasin.specs.Step.{slowStore, let-go, total, with-parted}
-use Rattle.subbasin.proofs.RecordLaws.{UpTo, RecordIn, record-limits}
-use Rattle.subbasin.proofs.LagLaws.{up-to-at}
-use Rattle.subbasin.proofs.Laws.{total-fits}
+use Rattle.common.proofs.amounts.AmountLaws.{UpTo, up-to-at}
+use Rattle.subbasin.proofs.record.RecordLaws.{RecordIn, record-limits}
+use Rattle.subbasin.proofs.step.StepLaws.{total-fits}
 use borrow.Author.Needs.{needs}
 use Rattle.subbasin.proofs.step.route.Statement.{statement}
 use Rattle.subbasin.proofs.step.route.Tie as tie

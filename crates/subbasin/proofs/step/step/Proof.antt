@@ -4,8 +4,8 @@ use mathlib.Core.Bool.{false, true≢false}
 use native.Mathlib.Omega.{arith}
 use Rattle.subbasin.specs.declared.record.SubBasin.{SubBasin}
 use Rattle.subbasin.specs.Record.{recordIn}
-use Rattle.subbasin.proofs.RecordLaws.{RecordIn, record-in, record-limits}
-use Rattle.subbasin.proofs.CallLaws.{step-accepts, step-refuses}
+use Rattle.subbasin.proofs.record.RecordLaws.{RecordIn, record-in, record-limits}
+use Rattle.subbasin.proofs.step.CallLaws.{step-accepts, step-refuses}
 use borrow.Author.Needs.{needs}
 use Rattle.subbasin.proofs.step.step.Statement.{statement}
 use Rattle.subbasin.proofs.step.step.Tie as tie
@@ -17,36 +17,35 @@ refuse-requires : tie.Need-refuse-requires
 refuse-requires c κs = search needs
 
 returns : tie.Need-returns
-returns c = c .refuse .ensures ∙ sym (step-refuses _ _ _ (λ h. omega (arith, h .rain-most)))
+returns c = c .refuse .ensures ∙ sym (step-refuses _ _ (λ h. omega (arith, h .in-weather .rain-most)))
 
 refuse-requires-2 : tie.Need-refuse-requires-2
 refuse-requires-2 c κs = search needs
 
 returns-2 : tie.Need-returns-2
-returns-2 c = c .refuse2 .ensures ∙ sym (step-refuses _ _ _ (λ h. omega (arith, h .pan-most)))
+returns-2 c = c .refuse2 .ensures ∙ sym (step-refuses _ _ (λ h. omega (arith, h .in-weather .pan-most)))
 
 allowed-requires : tie.Need-allowed-requires
 allowed-requires c κs = search needs
 
 run-requires : tie.Need-run-requires
-run-requires c κs = (sym (c .before .allowed .ensures) ∙ c .if3 .taken, omega arith, omega arith)
+run-requires c κs = (sym (c .before .allowed .ensures) ∙ c .if3 .taken, omega arith)
 
 returns-3 : tie.Need-returns-3
 returns-3 c =
     c .run .ensures
     ∙ sym
-    (step-accepts _ _ _
+    (step-accepts _ _
     (record {
       in-record = record-limits _ _ (sym (c .before .before .allowed .ensures) ∙ c .before .if3 .taken);
-      rain-most = c .before .before .before .before .if1 .left;
-      pan-most = c .before .before .before .if2 .left;
+      in-weather = record { rain-most = c .before .before .before .before .before .if1 .left; pan-most = c .before .before .before .if2 .left };
     }))
 
 refuse-requires-3 : tie.Need-refuse-requires-3
 refuse-requires-3 c κs = search needs
 
 returns-4 : tie.Need-returns-4
-returns-4 c = c .refuse3 .ensures ∙ sym (step-refuses _ _ _ (λ h. outside _ (sym (c .before .before .allowed .ensures) ∙ c .before .if3 .left) (h .in-record)))
+returns-4 c = c .refuse3 .ensures ∙ sym (step-refuses _ _ (λ h. outside _ (sym (c .before .before .allowed .ensures) ∙ c .before .if3 .left) (h .in-record)))
 
 pub step-spec : {M : Type 1} → statement M
 step-spec =

@@ -1,4 +1,4 @@
--- `subbasin_series::limits::places` is safe and ends: place rises to 41.
+-- `subbasin_series::limits::places` is safe and ends: place rises to count.
 -- Assumes nothing.
 use Prim.Native.Nat.{_≤_, _-_}
 use borrow.Author.Needs.{needs}
@@ -6,29 +6,8 @@ use native.Mathlib.Omega.{arith}
 use Rattle.subbasin_series.proofs.limits.places.Statement.{statement}
 use Rattle.subbasin_series.proofs.limits.places.Tie as tie
 
-abbrev Inv-loop : tie.InvT-loop
-Inv-loop call place₀ place = place ≤ 41
-
-abbrev μ-loop : tie.MeasureT-loop
-μ-loop call place₀ place = 41 - place
-
-loop-holds : tie.Need-loop-holds Inv-loop μ-loop
-loop-holds c = omega arith
-
-line-requires : tie.Need-line-requires Inv-loop μ-loop
-line-requires c κs = search needs
-
-add-place : tie.Need-add-place Inv-loop μ-loop
-add-place c = omega arith
-
-loop-less : tie.Need-loop-less Inv-loop μ-loop
-loop-less c = omega arith
-
-loop-again : tie.Need-loop-again Inv-loop μ-loop
-loop-again c = omega arith
-
-returns : tie.Need-returns Inv-loop μ-loop
-returns c = omega arith
-
 pub places-spec : {M : Type 1} → statement M
-places-spec = tie.close (tie.spec Inv-loop μ-loop loop-holds line-requires add-place loop-less loop-again returns)
+places-spec =
+    tie.close (tie.spec (λ count call place₀ place. place ≤ count)
+    (λ count call place₀ place. count - place)
+    (λ c. omega arith) (λ c κs. search needs) (λ c. omega arith) (λ c. omega arith) (λ c. omega arith) (λ c. omega arith))

@@ -6,29 +6,8 @@ use native.Mathlib.Omega.{arith}
 use Rattle.subbasin_series.proofs.plan.rows.Statement.{statement}
 use Rattle.subbasin_series.proofs.plan.rows.Tie as tie
 
-abbrev Inv-loop : tie.InvT-loop
-Inv-loop row count x₀ k₀ x k = k ≤ count
-
-abbrev μ-loop : tie.MeasureT-loop
-μ-loop row count x₀ k₀ x k = count - k
-
-loop-holds : tie.Need-loop-holds Inv-loop μ-loop
-loop-holds c = omega arith
-
-line-requires : tie.Need-line-requires Inv-loop μ-loop
-line-requires c κs = search needs
-
-add-k : tie.Need-add-k Inv-loop μ-loop
-add-k c = omega arith
-
-loop-less : tie.Need-loop-less Inv-loop μ-loop
-loop-less c = omega arith
-
-loop-again : tie.Need-loop-again Inv-loop μ-loop
-loop-again c = omega arith
-
-returns : tie.Need-returns Inv-loop μ-loop
-returns c = omega arith
-
 pub rows-spec : {M : Type 1} → statement M
-rows-spec = tie.close (tie.spec Inv-loop μ-loop loop-holds line-requires add-k loop-less loop-again returns)
+rows-spec =
+    tie.close (tie.spec (λ row count x₀ k₀ x k. k ≤ count)
+    (λ row count x₀ k₀ x k. count - k)
+    (λ c. omega arith) (λ c κs. search needs) (λ c. omega arith) (λ c. omega arith) (λ c. omega arith) (λ c. omega arith))

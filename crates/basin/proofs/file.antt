@@ -1,0 +1,2 @@
+pub mod FileLaws
+pub mod LoadedLaws

@@ -1,0 +1,68 @@
+-- `basin::limits::subs_blank` meets its contract. The loop's invariant: the k records past the n in use are zero. Assumes nothing.
+use mathlib.Core.Path.{sym, _∙_}
+use Prim.Native.Nat.{_+_, _-_}
+use native.Mathlib.Omega.{arith}
+use lib.ListN.{getD}
+use Rattle.common.proofs.Loops.{Trying, try-begin, try-turn, try-stop, try-end}
+use Rattle.subbasin.specs.Record.{blankSub, isBlank}
+use Rattle.basin.specs.State.{mostN}
+use Rattle.basin.specs.Limits.{subsBlank}
+use Rattle.basin.proofs.limits.LimitsLaws.{blank-read}
+use Rattle.basin.proofs.limits.subs_blank.Statement.{statement}
+use Rattle.basin.proofs.limits.subs_blank.Tie as tie
+
+abbrev Inv-loop : tie.InvT-loop
+Inv-loop n subs k₀ k = Trying (λ i. isBlank (getD subs (n + i) blankSub)) (mostN - n) k
+
+abbrev μ-loop : tie.MeasureT-loop
+μ-loop n subs k₀ k = mostN - n - k
+
+loop-holds : tie.Need-loop-holds Inv-loop μ-loop
+loop-holds c = try-begin
+
+sub-loop : tie.Need-sub-loop Inv-loop μ-loop
+sub-loop c = omega arith
+
+add-s : tie.Need-add-s Inv-loop μ-loop
+add-s c = omega arith
+
+mul-s : tie.Need-mul-s Inv-loop μ-loop
+mul-s c = omega arith
+
+array-copy-out-s : tie.Need-array-copy-out-s Inv-loop μ-loop
+array-copy-out-s c = omega arith
+
+is-blank-requires : tie.Need-is-blank-requires Inv-loop μ-loop
+is-blank-requires c κs = tt
+
+add-k : tie.Need-add-k Inv-loop μ-loop
+add-k c = omega arith
+
+loop-less : tie.Need-loop-less Inv-loop μ-loop
+loop-less c = omega arith
+
+loop-again : tie.Need-loop-again Inv-loop μ-loop
+loop-again c =
+    let test = c .before .before .before in
+    let loop = test .before in
+    let args = loop .before .args in
+    try-turn (loop .loop .inv) (test .loop-test .taken)
+    (sym (blank-read (args .t1) (args .n + loop .loop .k)) ∙ sym (c .before .is-blank .ensures) ∙ c .if1 .taken)
+
+returns : tie.Need-returns Inv-loop μ-loop
+unfolding subsBlank
+returns c =
+    let test = c .before .before .before in
+    let loop = test .before in
+    let args = loop .before .args in
+    try-stop (loop .loop .inv) (test .loop-test .taken)
+    (sym (blank-read (args .t1) (args .n + loop .loop .k)) ∙ sym (c .before .is-blank .ensures) ∙ c .if1 .left)
+
+returns-2 : tie.Need-returns-2 Inv-loop μ-loop
+unfolding subsBlank
+returns-2 c = try-end (c .before .loop .inv) (c .loop-test .left)
+
+pub subs-blank-spec : {M : Type 1} → statement M
+subs-blank-spec =
+    tie.close
+    (tie.spec Inv-loop μ-loop loop-holds sub-loop add-s mul-s array-copy-out-s is-blank-requires add-k loop-less loop-again returns returns-2)

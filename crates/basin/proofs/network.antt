@@ -1,0 +1,3 @@
+pub mod NetworkLaws
+pub mod CapLaws
+pub mod RouteLaws

@@ -1,0 +1,132 @@
+-- The step call: what its parts come to is the definition's outcome. Assumes nothing.
+use mathlib.Core.Path.{_≡_, refl, sym, ap, _∙_}
+use mathlib.Core.Bool.{Bool, true, false, cond}
+use mathlib.Core.List.{List}
+use Prim.Native.Nat.{ℕ, _+_, _*_, _≤_, _<_}
+use native.Mathlib.Numerals.{add-one}
+use native.Mathlib.Omega.{arith}
+use lib.ListN.{getD}
+use borrow.Author.Tests.{eq-eqb, ne-eqb}
+use Rattle.common.specs.Amounts.{sum}
+use Rattle.common.specs.Loops.{sumOf}
+use Rattle.forcing.specs.declared.list.Line.{Line}
+use Rattle.forcing.specs.declared.list.Forcing.{Forcing}
+use Rattle.forcing.specs.List.{reading}
+use Rattle.subbasin.specs.declared.record.SubBasin.{SubBasin}
+use Rattle.basin.specs.declared.reach.Reach.{Reach}
+use Rattle.basin.specs.declared.state.Basin.{Basin}
+use Rattle.basin.specs.declared.step.Subs.{Subs}
+use Rattle.basin.specs.declared.step.Outcome.{Outcome}
+use Rattle.basin.specs.Reach.{blankReach, reachIn}
+use Rattle.basin.specs.State.{reachAt, contentOf}
+use Rattle.basin.specs.Limits.{subsUsed, othersIn, basinIn}
+use Rattle.basin.specs.Network.{flows, reachesAfter}
+use Rattle.basin.specs.Step.{sentBy, basinAfter, rainVolume, lossVolume, outletVolume, taken, refusedStep, answered, stepCall}
+use Rattle.basin.specs.Workers.{mostSent, subsOnly, SubsDone, SubsOf, Flowing, Flowed}
+use Rattle.basin.proofs.reach.ReachLaws.{reach-in}
+use Rattle.basin.proofs.limits.LimitsLaws.{OthersIn, others-limits, basin-used, basin-others}
+use Rattle.basin.proofs.step.StepLaws.{waters-after, content-after}
+
+-- ---- a step whose forcing is accepted
+
+-- its answer, by 9
+abbrev pub byNine : Basin → Forcing → Outcome
+byNine b f = cond (basinIn b) (taken b f) (refusedStep b 9 0)
+
+module _ (b : Basin) (f : Forcing) (y : othersIn b ≡ true) {s : Subs} (of : SubsOf (subsOnly (b .n) (b .m) (b .subs)) (f .weather) s) where
+  used : s .number ≡ cond (subsUsed (b .m) (b .n) (b .subs)) 0 9
+  unfolding subsUsed
+  used = of .judged
+
+  pub subs-refuse : (s .number ≡ 0 → ⊥) → refusedStep b 9 0 ≡ byNine b f
+  subs-refuse n = go (subsUsed (b .m) (b .n) (b .subs)) refl used
+    where
+      go : (t : Bool) → subsUsed (b .m) (b .n) (b .subs) ≡ t → s .number ≡ cond t 0 9 → refusedStep b 9 0 ≡ byNine b f
+      go true e q = absurd (n q)
+      go false e q = sym (rw (basin-used b y ∙ e))
+
+  module _ (z : s .number ≡ 0) where
+    abbrev done : SubsDone (subsOnly (b .n) (b .m) (b .subs)) (f .weather) s
+    done = of .done z
+
+    abbrev others : OthersIn b
+    others = others-limits b y
+
+    pub flowing : Flowing (b .m) (b .reaches) (s .sent)
+    flowing =
+        record {
+          m-most = others .m-most;
+          allowed = λ j l. rw (add-one j) (reach-in (b .m) _ (reachAt b j) (others .used-reaches j l));
+          sent-most = done .sent-most;
+        }
+
+    allowed : basinIn b ≡ true
+    allowed = go (subsUsed (b .m) (b .n) (b .subs)) refl used
+      where
+        go : (t : Bool) → subsUsed (b .m) (b .n) (b .subs) ≡ t → s .number ≡ cond t 0 9 → basinIn b ≡ true
+        go true e q = basin-used b y ∙ e
+        go false e q = absurd (omega arith)
+
+    module _ {after : List Reach} {outlet held : ℕ} (r : Flowed (b .m) (b .reaches) (s .sent) after outlet held) where
+      sent-is : s .sent ≡ sentBy b (f .weather) (b .n)
+      unfolding sentBy
+      sent-is = done .sent-is
+
+      basin-is : _≡_ {A = Basin} (record { n = b .n; m = b .m; subs = s .subs; reaches = after }) (basinAfter b (f .weather))
+      unfolding basinAfter
+      basin-is = rw (done .subs-are, r .routed, sent-is)
+
+      content-is : s .held + held ≡ contentOf (basinAfter b (f .weather))
+      unfolding basinAfter
+      content-is =
+          omega (
+            arith,
+            done .held-is,
+            r .held-is,
+            ap (λ (p : List ℕ). sumOf (λ j. getD (reachesAfter (b .reaches) (b .m) p) j blankReach .content) (b .m)) sent-is,
+            waters-after b (f .weather) (done .long) (others .n-most),
+            content-after b (f .weather),
+          )
+
+      rain-is : s .rain ≡ rainVolume b (f .weather)
+      unfolding rainVolume
+      rain-is = done .rain-is
+
+      loss-is : s .loss ≡ lossVolume b (f .weather)
+      unfolding lossVolume
+      loss-is = done .loss-is
+
+      outlet-is : outlet ≡ outletVolume b (f .weather)
+      unfolding outletVolume
+      outlet-is = r .came ∙ rw sent-is
+
+      pub taken-is : _≡_ {A = Outcome}
+          (record {
+            number = 0;
+            place = 0;
+            basin = record { n = b .n; m = b .m; subs = s .subs; reaches = after };
+            report = record { rain = s .rain; evapotranspiration = s .loss; outlet = outlet; content = s .held + held; estimated = f .estimated };
+          })
+          (byNine b f)
+      unfolding taken
+      taken-is = rw (basin-is, content-is, rain-is, loss-is, outlet-is, allowed)
+
+-- ---- the call
+
+module _ (b : Basin) (lines : List Line) (count : ℕ) {f : Forcing} (read : f ≡ reading lines count (b .n)) where
+  pub call-accepted : f .number ≡ 0 → byNine b f ≡ stepCall b lines count
+  unfolding stepCall answered
+  call-accepted z = rw (← read, eq-eqb (f .number) 0 z)
+
+  module _ (y : othersIn b ≡ true) (n : f .number ≡ 0 → ⊥) {u : Bool} (t : u ≡ subsUsed (b .m) (b .n) (b .subs)) where
+    pub call-refused : u ≡ true → refusedStep b (f .number) (f .place) ≡ stepCall b lines count
+    unfolding stepCall answered
+    call-refused e = rw (basin-used b y ∙ sym t ∙ e, ← read, ne-eqb (f .number) 0 n)
+
+    pub subs-outside : u ≡ false → refusedStep b 9 0 ≡ stepCall b lines count
+    unfolding stepCall
+    subs-outside e = rw (basin-used b y ∙ sym t ∙ e)
+
+pub others-outside : (b : Basin) (lines : List Line) (count : ℕ) → othersIn b ≡ false → refusedStep b 9 0 ≡ stepCall b lines count
+unfolding stepCall
+others-outside b lines count o = rw (basin-others b o)

@@ -1,0 +1,33 @@
+-- The basin and its content: document 01, "The store law".
+use Prim.Native.Nat.{ℕ, _+_}
+use mathlib.Core.List.{List}
+use lib.ListN.{getD, replicate}
+use Rattle.common.specs.Loops.{sumOf}
+use Rattle.subbasin.specs.declared.record.SubBasin.{SubBasin}
+use Rattle.subbasin.specs.Record.{blankSub}
+use Rattle.subbasin.specs.Content.{water}
+use Rattle.basin.specs.declared.reach.Reach.{Reach}
+use Rattle.basin.specs.declared.state.Basin.{Basin}
+use Rattle.basin.specs.Reach.{blankReach}
+
+-- N at most 32, M at most 31
+abbrev pub mostN : ℕ
+mostN = 32
+
+abbrev pub mostM : ℕ
+mostM = 31
+
+-- sub-basin i and reach j, counted from 0
+abbrev pub subAt : Basin → ℕ → SubBasin
+subAt b i = getD (b .subs) i blankSub
+
+abbrev pub reachAt : Basin → ℕ → Reach
+reachAt b j = getD (b .reaches) j blankReach
+
+-- "Content is area × (WU + WL + WD + G + VI + VG) of every sub-basin plus all waiting amounts, CS stores and reaches"
+unfoldable pub contentOf : Basin → ℕ
+contentOf b = sumOf (λ i. water (subAt b i)) (b .n) + sumOf (λ j. reachAt b j .content) (b .m)
+
+-- "the empty basin, all zeros"
+abbrev pub emptyBasin : Basin
+emptyBasin = record { n = 0; m = 0; subs = replicate mostN blankSub; reaches = replicate mostM blankReach }

@@ -1,0 +1,4 @@
+-- Laws about the definitions of specs/, which the proofs of every crate cite.
+pub mod Limits
+pub mod Loops
+pub mod Greatest

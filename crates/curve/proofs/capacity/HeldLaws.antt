@@ -1,0 +1,90 @@
+-- Held and Ordinate: Held goes up from 0 to c, and Ordinate is the greatest point that holds at most w. Assumes nothing.
+use mathlib.Core.Path.{_≡_, ap, _∙_}
+use Prim.Native.Nat.{ℕ, _+_, _-_, _*_, _/_, _≤_, _<_, min}
+use native.Mathlib.Nat.{le-refl, le-trans, mul-le-mul-left, min-eq-left, min-eq-right}
+use native.Mathlib.Nat.{mul-div-right, zero-div, div-le-of-le-mul, div-mul-le-self, le-div-iff-mul-le}
+use native.Mathlib.Decide.{decLe}
+use native.Mathlib.Omega.{arith}
+use lib.Dec.{leb}
+use borrow.Author.Tests.{le-leb, lt-leb, leb-true, leb-false}
+use Rattle.common.specs.Shares.{one}
+use Rattle.common.proofs.Greatest.{greatest-le, greatest-holds, greatest-above, greatest-is}
+use Rattle.curve.specs.Capacity.{shareAbove, held, ordinate, rise, leastE}
+use Rattle.curve.proofs.capacity.PowerLaws.{power-mono, power-zero, power-one}
+
+share-above-mono : (m : ℕ) {a b : ℕ} → 0 < m → a ≤ b → shareAbove m b ≤ shareAbove m a
+unfolding shareAbove
+share-above-mono m {a} {b} z h =
+    le-div-iff-mul-le z .1 (le-trans (div-mul-le-self ((m - b) * one) m) (omega (arith, h)))
+
+pub share-above-le-one : (m a : ℕ) → 0 < m → shareAbove m a ≤ one
+unfolding shareAbove
+share-above-le-one m a z = div-le-of-le-mul m (omega arith)
+
+sub-zero-mul : (m : ℕ) → (m - 0) * one ≡ m * one
+sub-zero-mul m = omega arith
+
+sub-self-mul : (m : ℕ) → (m - m) * one ≡ 0
+sub-self-mul m = omega arith
+
+share-above-zero : (m : ℕ) → 0 < m → shareAbove m 0 ≡ one
+unfolding shareAbove
+share-above-zero m z = ap (λ (x : ℕ). x / m) (sub-zero-mul m) ∙ mul-div-right one z
+
+share-above-top : (m : ℕ) → shareAbove m m ≡ 0
+unfolding shareAbove
+share-above-top m = ap (λ (x : ℕ). x / m) (sub-self-mul m) ∙ zero-div m
+
+pub held-le : (c m e a : ℕ) → held c m e a ≤ c
+unfolding held
+held-le c m e a = omega arith
+
+pub held-mono : (c m e : ℕ) {a b : ℕ} → 0 < m → a ≤ b → held c m e a ≤ held c m e b
+unfolding held
+held-mono c m e {a} {b} z h = omega (arith, mul-le-mul-left c (power-mono e (share-above-mono m z h)))
+
+pub held-zero : (c m e : ℕ) → 0 < m → held c m e 0 ≡ 0
+unfolding held
+held-zero c m e z = rw (share-above-zero m z, power-one e) (omega arith)
+
+pub held-top : (c m e : ℕ) → leastE ≤ e → held c m e m ≡ c
+unfolding held
+held-top c m e h = rw (share-above-top m, power-zero e h) (omega arith)
+
+pub ordinate-le : (c m e w : ℕ) → ordinate c m e w ≤ m
+unfolding ordinate
+ordinate-le c m e w = greatest-le (λ a. leb (held c m e a) w) m
+
+-- Held at the ordinate is at most w
+pub ordinate-held : (c m e w : ℕ) → 0 < m → held c m e (ordinate c m e w) ≤ w
+unfolding ordinate
+ordinate-held c m e w z =
+    leb-true _ _ (greatest-holds (λ a. leb (held c m e a) w) m (le-leb (held c m e 0) w (omega (arith, held-zero c m e z))))
+
+-- and at any greater point up to m it is more
+pub ordinate-above : (c m e w a : ℕ) → ordinate c m e w < a → a ≤ m → w < held c m e a
+unfolding ordinate
+ordinate-above c m e w a h k = leb-false _ _ (greatest-above (λ a. leb (held c m e a) w) m a h k)
+
+-- a point that holds at most w, when the next one is past m or holds more, is the ordinate
+pub ordinate-is : (c m e w a : ℕ) → 0 < m → a ≤ m → held c m e a ≤ w → (a < m → w < held c m e (a + 1)) → ordinate c m e w ≡ a
+unfolding ordinate
+ordinate-is c m e w a z h l u =
+    greatest-is (λ a. leb (held c m e a) w) m a h (le-leb _ _ l)
+    (λ j i k. lt-leb (held c m e j) w (omega (arith, u (omega arith), held-mono c m e {a = a + 1} {b = j} z (omega arith))))
+
+pub ordinate-full : (c m e : ℕ) → 0 < m → leastE ≤ e → ordinate c m e c ≡ m
+ordinate-full c m e z h = ordinate-is c m e c m z (le-refl m) (held-le c m e m) (λ l. absurd (omega arith))
+
+-- net rain on top of w: no more than c is held, and no less than w
+pub rise-le : (c m e w pe : ℕ) → rise c m e w pe ≤ c
+unfolding rise
+rise-le c m e w pe = held-le c m e (min (ordinate c m e w + pe) m)
+
+pub le-rise : (c m e w pe : ℕ) → leastE ≤ e → w ≤ c → 0 < pe → w ≤ rise c m e w pe
+unfolding rise
+le-rise c m e w pe he hw hp =
+    elim (decLe (ordinate c m e w + pe) m) as (λ _. w ≤ held c m e (min (ordinate c m e w + pe) m)) [
+      | yes l ↦ rw (min-eq-left l) (omega (arith, ordinate-above c m e w (ordinate c m e w + pe) (omega arith) l))
+      | no n ↦ rw (min-eq-right {n = m} {m = ordinate c m e w + pe} (omega arith), held-top c m e he) hw
+    ]

@@ -1,0 +1,74 @@
+-- Free water: the three parts and what stays are all of it, and what stays is at most SM. Assumes nothing.
+use mathlib.Core.Path.{_≡_}
+use Prim.Native.Nat.{ℕ, _+_, _*_, _/_, _≤_, min}
+use native.Mathlib.Nat.{mul-le-mul, mul-le-mul-right, div-le-of-le-mul}
+use native.Mathlib.Omega.{arith}
+use lib.Dec.{ltb}
+use borrow.Author.Tests.{ltb-false}
+use Rattle.common.specs.Shares.{one}
+use Rattle.curve.specs.Capacity.{rise}
+use Rattle.curve.proofs.capacity.CallLaws.{CurveIn}
+use Rattle.curve.proofs.capacity.HeldLaws.{rise-le}
+use Rattle.subbasin.specs.declared.record.Parameters.{Parameters}
+use Rattle.subbasin.specs.declared.record.SubBasin.{SubBasin}
+use Rattle.subbasin.specs.Record.{words}
+use Rattle.subbasin.specs.declared.free_water.Parted.{Parted}
+use Rattle.subbasin.specs.Workers.{FreeIn}
+use Rattle.subbasin.specs.FreeWater.{ms, level, keep, parted}
+use Rattle.common.proofs.Limits.{by-test}
+use Rattle.common.proofs.Limits.{Within}
+
+module _ (m v : ℕ) (s : SubBasin) (h : Within (words m v s)) where
+  pub free-in : FreeIn (s .fixed)
+  free-in = omega arith
+
+  pub g-in : s .contents .g ≤ s .fixed .sm
+  g-in = omega arith
+
+-- the curve of free water is inside the limits of a curve, with MS at most 300,000
+pub ms-most : (p : Parameters) → FreeIn p → ms p ≤ 300000
+unfolding ms
+ms-most p free = omega (arith, mul-le-mul {n₁ = p .sm} {m₁ = p .xn} {n₂ = 100000} {m₂ = 48} (free .sm-most) (free .xn-most))
+
+ms-least : (p : Parameters) → FreeIn p → 1 ≤ ms p
+unfolding ms
+ms-least p free = omega (arith, mul-le-mul {n₁ = 1} {m₁ = 16} {n₂ = p .sm} {m₂ = p .xn} (free .sm-least) (free .xn-least))
+
+pub free-curve : (p : Parameters) → FreeIn p → CurveIn (p .sm) (ms p) (p .xn)
+free-curve p free = omega (arith, ms-least p free, ms-most p free)
+
+pub level-most : (p : Parameters) (g pe r : ℕ) → level p g pe r ≤ p .sm
+unfolding level
+level-most p g pe r = omega arith
+
+-- a part r / pe of what is at most m is at most m
+part-most : (x m r pe : ℕ) → x ≤ m → r ≤ pe → x * r / pe ≤ m
+part-most x m r pe h k = div-le-of-le-mul pe (omega (arith, mul-le-mul {n₁ = x} {m₁ = r} {n₂ = m} {m₂ = pe} h k))
+
+-- what is kept: no more than there is, and no more than SM
+pub record Keeps (p : Parameters) (g r kept : ℕ) : Type 0 where
+  pub within-all : kept ≤ g + r
+  pub within-sm : kept ≤ p .sm
+
+pub keeps : (p : Parameters) (g pe r : ℕ) → g ≤ p .sm → r ≤ pe → Keeps p g r (keep p g pe r)
+unfolding keep
+keeps p g pe r hg hr =
+    let s2 : ℕ = rise (p .sm) (ms p) (p .xn) (level p g pe r) pe in
+    let top : s2 * r / pe ≤ p .sm = part-most s2 (p .sm) r pe (rise-le (p .sm) (ms p) (p .xn) (level p g pe r) pe) hr in
+    by-test (Keeps p g r) (ltb 0 r) (λ _. omega arith) (λ t. let z : r ≤ 0 = ltb-false 0 r t in omega arith)
+
+-- RS, RI, RG and the free water after are the free water before and R; what drains was kept
+pub record Parts (p : Parameters) (g r : ℕ) (pw : Parted) : Type 0 where
+  pub balance : g + r ≡ pw .rs + pw .ri + pw .rg + pw .g
+  pub kept-most : pw .ri + pw .rg + pw .g ≤ p .sm
+
+-- the drains take no more than there is
+pub drains-most : (p : Parameters) (kept : ℕ) → FreeIn p → p .ki * kept / one + p .kg * kept / one ≤ kept
+drains-most p kept free = omega (arith, mul-le-mul-right kept (free .drains))
+
+pub parts : (p : Parameters) (g pe r : ℕ) → FreeIn p → g ≤ p .sm → r ≤ pe → Parts p g r (parted p g pe r)
+unfolding parted
+parts p g pe r free hg hr =
+    let k = keeps p g pe r hg hr in
+    let d = drains-most p (keep p g pe r) free in
+    omega arith

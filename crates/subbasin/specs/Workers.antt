@@ -1,0 +1,43 @@
+-- What the private functions require and answer: no part of document 01.
+use Prim.Native.Nat.{ℕ, suc, _+_, _≤_}
+use mathlib.Core.Bool.{cond, _&&_}
+use mathlib.Core.List.{List, [], _∷_}
+use lib.Dec.{eqb}
+use Rattle.common.specs.Shares.{one}
+use Rattle.common.specs.Limits.{within, Word}
+use Rattle.subbasin.specs.declared.record.Parameters.{Parameters}
+use Rattle.subbasin.specs.declared.soil.Layers.{Layers}
+
+-- of words that are judged one after the other, n of the first k were inside up to the first outside: and with a word more
+unfoldable pub further : ℕ → ℕ → ℕ → ℕ → ℕ → ℕ
+further n k lo x hi = cond (eqb n k && within lo x hi) (k + 1) n
+
+abbrev pub leading : ℕ → ℕ → List Word → ℕ
+leading n k [] = n
+leading n k (w ∷ ws) = leading (further n k (w .lo) (w .value) (w .hi)) (suc k) ws
+
+-- the words that evapotranspiration and runoff read
+pub record SoilIn (p : Parameters) : Type 0 where
+  pub k-most : p .k ≤ 131072
+  pub um-most : p .um ≤ 100000
+  pub lm-least : 1 ≤ p .lm
+  pub lm-most : p .lm ≤ 200000
+  pub dm-most : p .dm ≤ 200000
+  pub c-most : p .c ≤ 65535
+  pub bn-least : 16 ≤ p .bn
+  pub bn-most : p .bn ≤ 32
+  pub im-most : p .im ≤ 32768
+
+-- the layers within their capacities
+pub record LayersIn (p : Parameters) (w : Layers) : Type 0 where
+  pub wu-most : w .wu ≤ p .um
+  pub wl-most : w .wl ≤ p .lm
+  pub wd-most : w .wd ≤ p .dm
+
+-- the words that free water reads
+pub record FreeIn (p : Parameters) : Type 0 where
+  pub sm-least : 1 ≤ p .sm
+  pub sm-most : p .sm ≤ 100000
+  pub xn-least : 16 ≤ p .xn
+  pub xn-most : p .xn ≤ 48
+  pub drains : p .ki + p .kg ≤ one
