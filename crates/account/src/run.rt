@@ -3,6 +3,8 @@ ghost use Prim.Native.Nat.{_≤_, _<_, _^_};
 use crate::print;
 use basin::state::Basin;
 use basin::step;
+use basin::step::Outcome;
+use basin::step::Report;
 use forcing::file;
 use libc::STDOUT_FILENO;
 
@@ -59,7 +61,7 @@ fn take_steps(bytes: &[u8], basin: Basin, n: u64, done: u64) -> Left
 {
     let mut out = io::large_buffer();
     let size = (file::LINE_BYTES * n) as usize;
-    let mut basin = basin;
+    let mut given = first_given(basin);
     let mut at = 0;
     let mut end = 0;
     let mut i: u64 = 0;
@@ -69,7 +71,8 @@ fn take_steps(bytes: &[u8], basin: Basin, n: u64, done: u64) -> Left
         }
         let next = at + size;
         let lines = file::lines_of(&bytes[at..next], n);
-        let given = step::step(basin, lines, n);
+        let before = given.basin;
+        given = step::step(before, lines, n);
         let report = given.report;
         end = print::put_step(
             &mut out,
@@ -79,11 +82,27 @@ fn take_steps(bytes: &[u8], basin: Basin, n: u64, done: u64) -> Left
             given.place,
             report,
         );
-        basin = given.basin;
         at = next;
         i += 1;
     }
     end = print::put_short(&mut out, end, (bytes.len() - at) as u64);
     let more = io::write_all(STDOUT_FILENO, &out[..end]);
-    Left { basin, more }
+    let after = given.basin;
+    Left { basin: after, more }
+}
+
+// What the first step goes on from: the basin, with nothing reported.
+fn first_given(basin: Basin) -> Outcome {
+    Outcome {
+        number: 0,
+        place: 0,
+        basin,
+        report: Report {
+            rain: 0,
+            evapotranspiration: 0,
+            outlet: 0,
+            content: 0,
+            estimated: 0,
+        },
+    }
 }

@@ -122,34 +122,44 @@ fn step_subs(before: [SubBasin; 32], weather: [Weather; 32], n: u64, m: u64) -> 
     requires { ⌜ (n ≤ 32) × (m ≤ 31) × Weathers weather ⌝ }
     ensures { λ r. ⌜ SubsOf (subsOnly n m before) weather r ⌝ }
 {
-    let mut run = Subs {
-        number: 0,
-        subs: before,
-        sent: [0u64; 32],
-        rain: 0,
-        loss: 0,
-        held: 0,
-    };
+    let mut subs = before;
+    let mut sent = [0u64; 32];
+    let mut rain = 0;
+    let mut loss = 0;
+    let mut held = 0;
     let mut i: u64 = 0;
     while i < n {
         let at = i as usize;
-        let s = run.subs[at];
+        let s = subs[at];
         let w = weather[at];
         let t = take_turn(s, w, m);
         if t.number != 0 {
-            run.number = t.number;
-            return run;
+            return Subs {
+                number: t.number,
+                subs,
+                sent,
+                rain,
+                loss,
+                held,
+            };
         }
         let next = t.after;
-        run.subs[at] = next;
+        subs[at] = next;
         let to = t.to as usize;
-        run.sent[to] = run.sent[to] + t.q;
-        run.rain = run.rain + t.rain;
-        run.loss = run.loss + t.loss;
-        run.held = run.held + t.held;
+        sent[to] = sent[to] + t.q;
+        rain = rain + t.rain;
+        loss = loss + t.loss;
+        held = held + t.held;
         i += 1;
     }
-    run
+    Subs {
+        number: 0,
+        subs,
+        sent,
+        rain,
+        loss,
+        held,
+    }
 }
 
 // One sub-basin after its step, the volume q that it sends and where to, its rain and loss, and what it then holds, all in m³.

@@ -142,11 +142,11 @@ module _ (b : Basin) (ws : List Weather) where
               allowed true y j = y
               allowed false y j = absurd (omega arith)
 
-    pub stepping-end : b .n ≤ i → {number : ℕ} → number ≡ 0 → SubsOf b ws (record { number = number; subs = subs; sent = sent; rain = rain; loss = loss; held = held })
+    pub stepping-end : b .n ≤ i → SubsOf b ws (record { number = 0; subs = subs; sent = sent; rain = rain; loss = loss; held = held })
     unfolding subsUsed sentBy rainVolume lossVolume
-    stepping-end h e =
+    stepping-end h =
         record {
-          judged = e ∙ rw (← (try-end (s .judging) h));
+          judged = rw (← (try-end (s .judging) h));
           done =
               λ z.
               record {

@@ -10,16 +10,19 @@ use Rattle.account.proofs.run.take_steps.Statement.{statement}
 use Rattle.account.proofs.run.take_steps.Tie as tie
 
 abbrev Inv-loop : tie.InvT-loop
-Inv-loop bytes n done out₀ size basin₀ at₀ end₀ i₀ out basin at end i = (at ≤ length bytes) × (end ≤ 129 * i) × (i ≤ 170) × (65536 ≡ length out) × (size ≡ 12 * n)
+Inv-loop bytes n done out₀ size given₀ at₀ end₀ i₀ out given at end i = (at ≤ length bytes) × (end ≤ 129 * i) × (i ≤ 170) × (65536 ≡ length out) × (size ≡ 12 * n)
 
 abbrev μ-loop : tie.MeasureT-loop
-μ-loop bytes n done out₀ size basin₀ at₀ end₀ i₀ out basin at end i = 170 - i
+μ-loop bytes n done out₀ size given₀ at₀ end₀ i₀ out given at end i = 170 - i
 
 large-buffer-requires : tie.Need-large-buffer-requires Inv-loop μ-loop
 large-buffer-requires c κs = search needs
 
 mul-size : tie.Need-mul-size Inv-loop μ-loop
 mul-size c = omega arith
+
+first-given-requires : tie.Need-first-given-requires Inv-loop μ-loop
+first-given-requires c κs = search needs
 
 loop-holds : tie.Need-loop-holds Inv-loop μ-loop
 loop-holds c = omega arith
@@ -97,6 +100,7 @@ take-steps-spec =
     μ-loop
     large-buffer-requires
     mul-size
+    first-given-requires
     loop-holds
     sub-if1
     add-next

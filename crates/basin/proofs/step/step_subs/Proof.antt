@@ -1,6 +1,6 @@
 -- `basin::step::step_subs` meets its contract: before each turn `Stepping` holds. The measure is the count of sub-basins that are left.
 -- Assumes nothing.
-use mathlib.Core.Path.{_≡_, refl}
+use mathlib.Core.Path.{refl}
 use Prim.Native.Nat.{_-_}
 use native.Mathlib.Omega.{arith}
 use Rattle.basin.specs.Workers.{subsOnly}
@@ -9,86 +9,85 @@ use Rattle.basin.proofs.step.step_subs.Statement.{statement}
 use Rattle.basin.proofs.step.step_subs.Tie as tie
 
 abbrev Inv-loop : tie.InvT-loop
-Inv-loop n m weather run₀ i₀ run i =
-    Stepping (subsOnly n m (run₀ .subs)) weather i (run .subs) (run .sent) (run .rain) (run .loss) (run .held) × (run .number ≡ 0)
+Inv-loop n m weather subs₀ sent₀ rain₀ loss₀ held₀ i₀ subs sent rain loss held i = Stepping (subsOnly n m subs₀) weather i subs sent rain loss held
 
 abbrev μ-loop : tie.MeasureT-loop
-μ-loop n m weather run₀ i₀ run i = n - i
+μ-loop n m weather subs₀ sent₀ rain₀ loss₀ held₀ i₀ subs sent rain loss held i = n - i
 
 -- what is known of a turn that is not refused
 module _ (c : tie.Else1 Inv-loop μ-loop) where
   abbrev at-loop : tie.At-loop Inv-loop μ-loop
   at-loop = c .before .before .before .before .before .before
 
-  fits : Fitting (at-loop .loop .run .sent) (at-loop .loop .run .rain) (at-loop .loop .run .loss) (at-loop .loop .run .held) (c .before .before .take-turn .result)
-  fits = stepping-fits _ _ (at-loop .loop .inv .0) (c .before .before .before .before .before .loop-test .taken) _ _ (c .before .before .take-turn .ensures) (c .if1 .left)
+  fits : Fitting (at-loop .loop .sent) (at-loop .loop .rain) (at-loop .loop .loss) (at-loop .loop .held) (c .before .before .take-turn .result)
+  fits = stepping-fits _ _ (at-loop .loop .inv) (c .before .before .before .before .before .loop-test .taken) _ _ (c .before .before .take-turn .ensures) (c .if1 .left)
 
 loop-holds : tie.Need-loop-holds Inv-loop μ-loop
-loop-holds c = (stepping-begin (subsOnly _ _ _) _ (c .pre .0) (c .pre .1) (search) (c .pre .2), refl)
+loop-holds c = stepping-begin (subsOnly _ _ _) _ (c .pre .0) (c .pre .1) (search) (c .pre .2)
 
 mul-s : tie.Need-mul-s Inv-loop μ-loop
-mul-s c = omega (arith, c .before .loop .inv .0 .n-most)
+mul-s c = omega (arith, c .before .loop .inv .n-most)
 
-element-copy-out-s : tie.Need-element-copy-out-s Inv-loop μ-loop
-element-copy-out-s c = omega (arith, c .before .loop .inv .0 .n-most)
+array-copy-out-s : tie.Need-array-copy-out-s Inv-loop μ-loop
+array-copy-out-s c = omega (arith, c .before .loop .inv .n-most)
 
 mul-w : tie.Need-mul-w Inv-loop μ-loop
-mul-w c = omega (arith, c .before .before .loop .inv .0 .n-most)
+mul-w c = omega (arith, c .before .before .loop .inv .n-most)
 
 array-copy-out-w : tie.Need-array-copy-out-w Inv-loop μ-loop
-array-copy-out-w c = omega (arith, c .before .before .loop .inv .0 .n-most)
+array-copy-out-w c = omega (arith, c .before .before .loop .inv .n-most)
 
 take-turn-requires : tie.Need-take-turn-requires Inv-loop μ-loop
 take-turn-requires c κs =
     let at = c .before .before .before .loop in
-    (at .inv .0 .m-most, weather-here _ _ (at .inv .0) (c .before .before .loop-test .taken) _)
+    (at .inv .m-most, weather-here _ _ (at .inv) (c .before .before .loop-test .taken) _)
 
 returns : tie.Need-returns Inv-loop μ-loop
-returns c = stepping-stop _ _ (c .before .before .before .before .before .before .loop .inv .0) (c .before .before .before .before .before .loop-test .taken) _ _ (c .before .before .take-turn .ensures) (c .if1 .taken) refl
+returns c = stepping-stop _ _ (c .before .before .before .before .before .before .loop .inv) (c .before .before .before .before .before .loop-test .taken) _ _ (c .before .before .take-turn .ensures) (c .if1 .taken) refl
 
-mul-next : tie.Need-mul-next Inv-loop μ-loop
-mul-next c = omega (arith, c .before .before .before .before .before .before .before .loop .inv .0 .n-most)
+mul-subs : tie.Need-mul-subs Inv-loop μ-loop
+mul-subs c = omega (arith, c .before .before .before .before .before .before .before .loop .inv .n-most)
 
-element-set-from-next : tie.Need-element-set-from-next Inv-loop μ-loop
-element-set-from-next c = omega (arith, c .before .before .before .before .before .before .before .loop .inv .0 .n-most)
+array-set-from-subs : tie.Need-array-set-from-subs Inv-loop μ-loop
+array-set-from-subs c = omega (arith, c .before .before .before .before .before .before .before .loop .inv .n-most)
 
-mul-run : tie.Need-mul-run Inv-loop μ-loop
-mul-run c = omega (arith, fits (c .before) .to-in)
+mul-sent : tie.Need-mul-sent Inv-loop μ-loop
+mul-sent c = omega (arith, fits (c .before) .to-in)
 
-element-copy-out-run : tie.Need-element-copy-out-run Inv-loop μ-loop
-element-copy-out-run c = fits (c .before) .to-in
+array-read-sent : tie.Need-array-read-sent Inv-loop μ-loop
+array-read-sent c = fits (c .before) .to-in
 
-add-run : tie.Need-add-run Inv-loop μ-loop
-add-run c = omega (arith, fits (c .before .before .before) .sent-fits)
+add-sent : tie.Need-add-sent Inv-loop μ-loop
+add-sent c = omega (arith, fits (c .before .before) .sent-fits)
 
-mul-run-2 : tie.Need-mul-run-2 Inv-loop μ-loop
-mul-run-2 c = omega (arith, fits (c .before .before .before) .to-in)
+mul-sent-2 : tie.Need-mul-sent-2 Inv-loop μ-loop
+mul-sent-2 c = omega (arith, fits (c .before .before) .to-in)
 
-element-write-run : tie.Need-element-write-run Inv-loop μ-loop
-element-write-run c = fits (c .before .before .before) .to-in
+array-write-sent : tie.Need-array-write-sent Inv-loop μ-loop
+array-write-sent c = fits (c .before .before) .to-in
 
-add-run-2 : tie.Need-add-run-2 Inv-loop μ-loop
-add-run-2 c = omega (arith, fits (c .before .before .before .before) .rain-fits)
+add-rain : tie.Need-add-rain Inv-loop μ-loop
+add-rain c = omega (arith, fits (c .before .before .before) .rain-fits)
 
-add-run-3 : tie.Need-add-run-3 Inv-loop μ-loop
-add-run-3 c = omega (arith, fits (c .before .before .before .before .before) .loss-fits)
+add-loss : tie.Need-add-loss Inv-loop μ-loop
+add-loss c = omega (arith, fits (c .before .before .before .before) .loss-fits)
 
-add-run-4 : tie.Need-add-run-4 Inv-loop μ-loop
-add-run-4 c = omega (arith, fits (c .before .before .before .before .before .before) .held-fits)
+add-held : tie.Need-add-held Inv-loop μ-loop
+add-held c = omega (arith, fits (c .before .before .before .before .before) .held-fits)
 
 add-i : tie.Need-add-i Inv-loop μ-loop
-add-i c = omega (arith, c .before .before .before .before .before .before .before .before .before .before .before .loop-test .taken, c .before .before .before .before .before .before .before .before .before .before .before .before .loop .inv .0 .n-most)
+add-i c = omega (arith, c .before .before .before .before .before .before .before .before .before .before .loop-test .taken, c .before .before .before .before .before .before .before .before .before .before .before .loop .inv .n-most)
 
 loop-less : tie.Need-loop-less Inv-loop μ-loop
-loop-less c = omega (arith, c .before .before .before .before .before .before .before .before .before .before .before .loop-test .taken)
+loop-less c = omega (arith, c .before .before .before .before .before .before .before .before .before .before .loop-test .taken)
 
 loop-again : tie.Need-loop-again Inv-loop μ-loop
 loop-again c =
-    let at = c .before .before .before .before .before .before .before .before in
-    (stepping-turn _ _ (at .before .before .before .before .loop .inv .0) (at .before .before .before .loop-test .taken) _ _ (at .take-turn .ensures) (c .before .before .before .before .before .before .if1 .left), c .before .before .before .before .before .before .before .before .before .before .before .before .loop .inv .1)
+    let at = c .before .before .before .before .before .before .before in
+    stepping-turn _ _ (at .before .before .before .before .loop .inv) (at .before .before .before .loop-test .taken) _ _ (at .take-turn .ensures) (c .before .before .before .before .before .if1 .left)
 
 returns-2 : tie.Need-returns-2 Inv-loop μ-loop
-returns-2 c = stepping-end _ _ (c .before .loop .inv .0) (c .loop-test .left) (c .before .loop .inv .1)
+returns-2 c = stepping-end _ _ (c .before .loop .inv) (c .loop-test .left)
 
 pub step-subs-spec : {M : Type 1} → statement M
 step-subs-spec =
@@ -98,21 +97,21 @@ step-subs-spec =
     μ-loop
     loop-holds
     mul-s
-    element-copy-out-s
+    array-copy-out-s
     mul-w
     array-copy-out-w
     take-turn-requires
     returns
-    mul-next
-    element-set-from-next
-    mul-run
-    element-copy-out-run
-    add-run
-    mul-run-2
-    element-write-run
-    add-run-2
-    add-run-3
-    add-run-4
+    mul-subs
+    array-set-from-subs
+    mul-sent
+    array-read-sent
+    add-sent
+    mul-sent-2
+    array-write-sent
+    add-rain
+    add-loss
+    add-held
     add-i
     loop-less
     loop-again
