@@ -28,7 +28,6 @@ use Rattle.subbasin.specs.Cases.{case-a, stepCases}
 use Rattle.subbasin.proofs.Cases.{step-a, step-cases}
 use Rattle.basin.specs.declared.state.Basin.{Basin}
 use Rattle.basin.specs.declared.step.Outcome.{Outcome}
-use Rattle.basin.specs.declared.step.Report.{Report}
 use Rattle.basin.specs.Reach.{blankReach, isBlankReach}
 use Rattle.basin.specs.State.{contentOf}
 use Rattle.basin.specs.Limits.{countsIn, subsUsed, subsBlank, reachesUsed, reachesBlank, othersIn, basinIn}

@@ -1,6 +1,5 @@
 -- The basin and its content: document 01, "The store law".
 use Prim.Native.Nat.{ℕ, _+_}
-use mathlib.Core.List.{List}
 use lib.ListN.{getD, replicate}
 use Rattle.common.specs.Loops.{sumOf}
 use Rattle.subbasin.specs.declared.record.SubBasin.{SubBasin}

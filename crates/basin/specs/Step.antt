@@ -14,7 +14,7 @@ use Rattle.subbasin.specs.declared.step.Stepped.{Stepped}
 use Rattle.subbasin.specs.Step.{stepped}
 use Rattle.basin.specs.declared.state.Basin.{Basin}
 use Rattle.basin.specs.declared.step.Outcome.{Outcome}
-use Rattle.basin.specs.State.{subAt, reachAt, contentOf}
+use Rattle.basin.specs.State.{subAt, contentOf}
 use Rattle.basin.specs.Limits.{basinIn}
 use Rattle.basin.specs.Network.{send, flows, reachesAfter}
 

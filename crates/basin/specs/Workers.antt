@@ -18,7 +18,6 @@ use Rattle.basin.specs.declared.state.Basin.{Basin}
 use Rattle.basin.specs.declared.step.Subs.{Subs}
 use Rattle.basin.specs.declared.step.Turn.{Turn}
 use Rattle.basin.specs.Reach.{blankReach, reachIn}
-use Rattle.basin.specs.State.{subAt}
 use Rattle.basin.specs.Limits.{subsUsed}
 use Rattle.basin.specs.Network.{flows, reachesAfter}
 use Rattle.basin.specs.Step.{stepOf, sentBy, rainVolume, lossVolume}

@@ -9,7 +9,7 @@ use native.Mathlib.Omega.{arith}
 use lib.Dec.{leb}
 use lib.ListN.{length, take, drop, length-append}
 use borrow.Author.Tests.{le-leb, leb-true}
-use Rattle.common.specs.Limits.{within, Word, word, values, wordsIn, firstOut}
+use Rattle.common.specs.Limits.{within, Word, word, wordsIn, firstOut}
 
 -- ---- tests
 

@@ -8,6 +8,7 @@ use Rattle.common.specs.Weather.{mostRain, mostPan}
 use Rattle.curve.specs.declared.store.Store.{Store}
 use Rattle.curve.specs.Store.{outflow, content}
 use Rattle.subbasin.specs.declared.record.Contents.{Contents}
+use Rattle.subbasin.specs.declared.record.LagLine.{LagLine}
 use Rattle.subbasin.specs.declared.record.SubBasin.{SubBasin}
 use Rattle.subbasin.specs.declared.step.Stepped.{Stepped}
 use Rattle.subbasin.specs.Record.{recordIn}
@@ -41,26 +42,18 @@ abbrev pub total : SubBasin → Runoff → Parted → ℕ
 total s ro pw =
     (pw .rs + ro .rb + let-go (s .fixed .ci) (s .contents .vi) (pw .ri) + let-go (s .fixed .cg) (s .contents .vg) (pw .rg)) * s .fixed .area
 
--- the answer, from what each stage gave and the amount t that enters the lag line
-abbrev pub gathered : SubBasin → Evaporated → Runoff → Parted → ℕ → Stepped
-gathered s ev ro pw t =
+-- the answer, from what each stage gave, what VI, VG, the lag line and the channel are then, and Q
+abbrev pub gathered : SubBasin → Evaporated → Runoff → Parted → ℕ → ℕ → LagLine → ℕ → ℕ → Stepped
+gathered s ev ro pw vi vg line channel q =
     record {
       number = 0;
       place = 0;
       after =
           record {
             fixed = s .fixed;
-            contents =
-                record {
-                  wu = ro .layers .wu;
-                  wl = ro .layers .wl;
-                  wd = ro .layers .wd;
-                  g = pw .g;
-                  vi = holds (s .fixed .ci) (s .contents .vi) (pw .ri);
-                  vg = holds (s .fixed .cg) (s .contents .vg) (pw .rg);
-                };
-            line = entered (s .line) t;
-            channel = holds (s .fixed .cs) (s .channel) (leaving (s .line) t);
+            contents = record { wu = ro .layers .wu; wl = ro .layers .wl; wd = ro .layers .wd; g = pw .g; vi = vi; vg = vg };
+            line = line;
+            channel = channel;
           };
       eu = ev .eu;
       el = ev .el;
@@ -70,12 +63,23 @@ gathered s ev ro pw t =
       rs = pw .rs;
       ri = pw .ri;
       rg = pw .rg;
-      q = let-go (s .fixed .cs) (s .channel) (leaving (s .line) t);
+      q = q;
     }
+
+-- "TI comes from store VI with inflow RI, TG from VG with RG"; T, the amount t, "enters the lag line", and what leaves it "goes through
+-- the CS store to give Q"
+abbrev pub with-total : SubBasin → Evaporated → Runoff → Parted → ℕ → Stepped
+with-total s ev ro pw t =
+    gathered s ev ro pw
+    (holds (s .fixed .ci) (s .contents .vi) (pw .ri))
+    (holds (s .fixed .cg) (s .contents .vg) (pw .rg))
+    (entered (s .line) t)
+    (holds (s .fixed .cs) (s .channel) (leaving (s .line) t))
+    (let-go (s .fixed .cs) (s .channel) (leaving (s .line) t))
 
 -- the stages in order
 abbrev pub with-parted : SubBasin → Evaporated → Runoff → Parted → Stepped
-with-parted s ev ro pw = gathered s ev ro pw (total s ro pw)
+with-parted s ev ro pw = with-total s ev ro pw (total s ro pw)
 
 abbrev pub with-runoff : SubBasin → Evaporated → Runoff → Stepped
 with-runoff s ev ro = with-parted s ev ro (parted (s .fixed) (s .contents .g) (ev .pe) (ro .r))

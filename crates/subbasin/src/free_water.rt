@@ -1,6 +1,6 @@
 // Free water and its three parts: document 01, "One sub-basin, one step". All in µm.
 ghost use mathlib.Core.Path.{_≡_};
-ghost use Prim.Native.Nat.{_≤_, _<_};
+ghost use Prim.Native.Nat.{_≤_};
 ghost use Rattle.subbasin.specs.Workers.{FreeIn};
 ghost use Rattle.subbasin.specs.FreeWater.{keep, parted};
 use crate::record::Parameters;

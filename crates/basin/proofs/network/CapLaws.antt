@@ -1,6 +1,6 @@
 -- The most that can come to each reach: every sub-basin sends it at most 2^34 in a step, and a reach passes on at most what came.
 -- The contents that steps lead to stay below what this allows. Assumes nothing.
-use mathlib.Core.Path.{_≡_, refl, ap, _∙_}
+use mathlib.Core.Path.{_≡_, refl, ap}
 use mathlib.Core.List.{List, [], _∷_}
 use Prim.Native.Nat.{ℕ, zero, suc, _+_, _-_, _*_, _^_, _≤_, _<_}
 use native.Mathlib.Nat.{mul-le-mul, mul-le-mul-right}
@@ -15,7 +15,7 @@ use Rattle.curve.proofs.store.StoreLaws.{slack, store-passes}
 use Rattle.subbasin.specs.Record.{mostStored}
 use Rattle.basin.specs.declared.reach.Reach.{Reach}
 use Rattle.basin.specs.Reach.{blankReach}
-use Rattle.basin.specs.Network.{send, reachOut, reachAfter, passed, flows, inflow, reachesAfter}
+use Rattle.basin.specs.Network.{send, reachOut, reachAfter, flows, inflow, reachesAfter}
 use Rattle.basin.proofs.reach.ReachLaws.{ReachWords}
 use Rattle.basin.proofs.network.NetworkLaws.{send-sum-most, after-in, after-past}
 

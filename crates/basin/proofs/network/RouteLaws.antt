@@ -1,11 +1,10 @@
 -- The reaches' turns, one after the other: what holds before each, and what they come to. Assumes nothing.
-use mathlib.Core.Path.{_≡_, refl, sym, ap, _∙_}
-use mathlib.Core.Bool.{true}
+use mathlib.Core.Path.{_≡_, sym, ap, _∙_}
 use mathlib.Core.List.{List}
-use Prim.Native.Nat.{ℕ, suc, _+_, _*_, _^_, _≤_, _<_}
+use Prim.Native.Nat.{ℕ, suc, _+_, _^_, _≤_, _<_}
 use native.Mathlib.Numerals.{add-one}
 use native.Mathlib.Omega.{arith}
-use lib.ListN.{length, getD, set, length-set}
+use lib.ListN.{length, getD, set}
 use Rattle.common.specs.Amounts.{sum}
 use Rattle.common.specs.Loops.{sumOf}
 use Rattle.common.proofs.amounts.AmountLaws.{getD-within, at-most-sum, sum-clear}
@@ -15,9 +14,9 @@ use Rattle.curve.proofs.store.StoreLaws.{store-within}
 use Rattle.subbasin.specs.Record.{mostStored}
 use Rattle.basin.specs.declared.reach.Reach.{Reach}
 use Rattle.basin.specs.declared.network.Passed.{Passed}
-use Rattle.basin.specs.Reach.{blankReach, reachIn}
+use Rattle.basin.specs.Reach.{blankReach}
 use Rattle.basin.specs.Network.{send, reachOut, reachAfter, passed, flows, inflow, reachesAfter}
-use Rattle.basin.specs.Workers.{mostSent, Passing, Flowing, Flowed}
+use Rattle.basin.specs.Workers.{Passing, Flowing, Flowed}
 use Rattle.basin.proofs.reach.ReachLaws.{ReachIn, reach-limits}
 use Rattle.basin.proofs.network.NetworkLaws.{flows-length, flows-most, contents-most, after-same}
 

@@ -2,27 +2,25 @@
 use mathlib.Core.Path.{_≡_, refl, sym, ap, _∙_}
 use mathlib.Core.Bool.{Bool, true, false, cond}
 use mathlib.Core.List.{List}
-use Prim.Native.Nat.{ℕ, _+_, _*_, _≤_, _<_}
+use Prim.Native.Nat.{ℕ, _+_}
 use native.Mathlib.Numerals.{add-one}
 use native.Mathlib.Omega.{arith}
 use lib.ListN.{getD}
 use borrow.Author.Tests.{eq-eqb, ne-eqb}
-use Rattle.common.specs.Amounts.{sum}
 use Rattle.common.specs.Loops.{sumOf}
 use Rattle.forcing.specs.declared.list.Line.{Line}
 use Rattle.forcing.specs.declared.list.Forcing.{Forcing}
 use Rattle.forcing.specs.List.{reading}
-use Rattle.subbasin.specs.declared.record.SubBasin.{SubBasin}
 use Rattle.basin.specs.declared.reach.Reach.{Reach}
 use Rattle.basin.specs.declared.state.Basin.{Basin}
 use Rattle.basin.specs.declared.step.Subs.{Subs}
 use Rattle.basin.specs.declared.step.Outcome.{Outcome}
-use Rattle.basin.specs.Reach.{blankReach, reachIn}
+use Rattle.basin.specs.Reach.{blankReach}
 use Rattle.basin.specs.State.{reachAt, contentOf}
 use Rattle.basin.specs.Limits.{subsUsed, othersIn, basinIn}
-use Rattle.basin.specs.Network.{flows, reachesAfter}
+use Rattle.basin.specs.Network.{reachesAfter}
 use Rattle.basin.specs.Step.{sentBy, basinAfter, rainVolume, lossVolume, outletVolume, taken, refusedStep, answered, stepCall}
-use Rattle.basin.specs.Workers.{mostSent, subsOnly, SubsDone, SubsOf, Flowing, Flowed}
+use Rattle.basin.specs.Workers.{subsOnly, SubsDone, SubsOf, Flowing, Flowed}
 use Rattle.basin.proofs.reach.ReachLaws.{reach-in}
 use Rattle.basin.proofs.limits.LimitsLaws.{OthersIn, others-limits, basin-used, basin-others}
 use Rattle.basin.proofs.step.StepLaws.{waters-after, content-after}

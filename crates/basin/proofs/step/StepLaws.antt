@@ -4,7 +4,7 @@ use mathlib.Core.List.{List}
 use Prim.Native.Nat.{ℕ, zero, suc, _+_, _*_, _≤_, _<_}
 use native.Mathlib.Decide.{decLe}
 use native.Mathlib.Omega.{arith}
-use lib.ListN.{length, getD, replicate}
+use lib.ListN.{length, getD}
 use Rattle.common.specs.declared.weather.Weather.{Weather}
 use Rattle.common.specs.Weather.{calm}
 use Rattle.common.specs.Amounts.{sum}
@@ -20,7 +20,6 @@ use Rattle.subbasin.specs.Content.{water}
 use Rattle.subbasin.proofs.step.StepLaws.{Kept, step-keeps, step-balances}
 use Rattle.basin.specs.declared.reach.Reach.{Reach}
 use Rattle.basin.specs.declared.state.Basin.{Basin}
-use Rattle.basin.specs.Reach.{blankReach}
 use Rattle.basin.specs.State.{subAt, reachAt, contentOf}
 use Rattle.basin.specs.Step.{stepOf, sentBy, basinAfter, rainVolume, lossVolume, outletVolume}
 use Rattle.basin.specs.Workers.{Weathers}

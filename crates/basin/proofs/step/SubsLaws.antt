@@ -8,7 +8,6 @@ use lib.ListN.{length, getD, set, replicate}
 use Rattle.common.specs.declared.weather.Weather.{Weather}
 use Rattle.common.specs.Weather.{calm, WeatherIn}
 use Rattle.common.specs.Amounts.{sum}
-use Rattle.common.specs.Loops.{every}
 use Rattle.common.proofs.amounts.AmountLaws.{getD-within, at-most-sum, sum-zeros}
 use Rattle.common.proofs.Loops.{Trying, try-begin, try-turn, try-stop, try-end}
 use Rattle.common.proofs.Loops.{Filling, fill-begin, fill-turn, fill-end, fill-here, fill-length, Carrying, carry-begin, carry-turn, carry-end}
@@ -23,7 +22,7 @@ use Rattle.basin.specs.State.{subAt}
 use Rattle.basin.specs.Limits.{subsUsed}
 use Rattle.basin.specs.Network.{send}
 use Rattle.basin.specs.Step.{stepOf, sentBy, rainVolume, lossVolume}
-use Rattle.basin.specs.Workers.{Weathers, mostSent, Turned, TurnOf, SubsDone, SubsOf}
+use Rattle.basin.specs.Workers.{Weathers, mostSent, Turned, TurnOf, SubsOf}
 use Rattle.basin.proofs.network.NetworkLaws.{send-sum-most}
 use Rattle.basin.proofs.step.StepLaws.{sent-length}
 

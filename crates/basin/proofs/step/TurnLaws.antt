@@ -1,6 +1,6 @@
 -- One sub-basin's turn: its own call judges its record, REACH apart, and what it gives fits into machine words. Assumes nothing.
 use mathlib.Core.Path.{_≡_, refl, sym, ap, _∙_}
-use mathlib.Core.Bool.{Bool, true, false, cond}
+use mathlib.Core.Bool.{false}
 use Prim.Native.Nat.{ℕ, _+_, _*_, _^_, _≤_, _<_}
 use native.Mathlib.Nat.{le-refl, mul-le-mul-right}
 use native.Mathlib.Omega.{arith}
@@ -17,7 +17,7 @@ use Rattle.subbasin.proofs.record.RecordLaws.{RecordIn, record-limits, record-i
 use Rattle.subbasin.proofs.step.StepLaws.{q-fits, rain-fits, evaporated-fits, water-after-fits}
 use Rattle.subbasin.proofs.step.CallLaws.{CallIn, step-accepts, step-accepted}
 use Rattle.basin.specs.declared.step.Turn.{Turn}
-use Rattle.basin.specs.Workers.{Turned, TurnOf}
+use Rattle.basin.specs.Workers.{TurnOf}
 
 stepped-number : (s : SubBasin) (w : Weather) → stepped s w .number ≡ 0
 unfolding stepped

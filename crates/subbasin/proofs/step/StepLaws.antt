@@ -19,7 +19,7 @@ use Rattle.subbasin.specs.Step.{rest, let-go, holds, total, stepped}
 use Rattle.common.specs.Amounts.{sum}
 use Rattle.subbasin.specs.Content.{waterDepth, water}
 use Rattle.common.proofs.Limits.{Within}
-use Rattle.common.proofs.amounts.AmountLaws.{UpTo, sum-most, up-to-more, up-to-zeros, up-to-drop}
+use Rattle.common.proofs.amounts.AmountLaws.{UpTo, up-to-more, up-to-zeros, up-to-drop}
 use Rattle.subbasin.proofs.record.RecordLaws.{RecordIn, words-with}
 use Rattle.subbasin.proofs.lag.LagLaws.{LineIn, lag-kept, line-conserves, line-keeps, line-bounded, line-sum-most}
 use Rattle.subbasin.proofs.step.StageLaws.{Depths, depths, amount, Routes, routes}

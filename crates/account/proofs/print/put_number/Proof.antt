@@ -14,23 +14,11 @@ digits-most n k h f = ⊎-elim (λ e. omega arith) more (eq-zero-or-pos (k - 20)
     more : 0 < k - 20 → k ≤ 20
     more p = omega (arith, pow-le-pow-right {n = 10} (omega arith) {i = 20} {j = k - 1} (omega arith), f .2 (omega arith))
 
-decimal-requires : tie.Need-decimal-requires
-decimal-requires c κs = search needs
-
-array-share-prefix-text : tie.Need-array-share-prefix-text
-array-share-prefix-text c = search needs
-
-slice-aggregate-put-text : tie.Need-slice-aggregate-put-text
-slice-aggregate-put-text c = search needs
-
 put-text-requires : tie.Need-put-text-requires
 put-text-requires c κs =
     let spelt = c .before .before in
     let start = spelt .before .before .before in
     omega (arith, start .pre, digits-most (start .args .n) (spelt .decimal .result) (start .fits .n .fits) (spelt .decimal .ensures .1 .0))
-
-same-length : tie.Need-same-length
-same-length c = search needs
 
 returns : tie.Need-returns
 returns c =
@@ -39,4 +27,5 @@ returns c =
     omega (arith, digits-most (start .args .n) (spelt .decimal .result) (start .fits .n .fits) (spelt .decimal .ensures .1 .0))
 
 pub put-number-spec : {M : Type 1} → statement M
-put-number-spec = tie.close (tie.spec decimal-requires array-share-prefix-text slice-aggregate-put-text put-text-requires same-length returns)
+put-number-spec =
+    tie.close (tie.spec (λ c κs. search needs) (λ c. search needs) (λ c. search needs) put-text-requires (λ c. search needs) returns)

@@ -6,17 +6,8 @@ use Rattle.basin.proofs.file.FileLaws.{in-reaches, out-sub, out-reach}
 use Rattle.basin.proofs.file.first_out.Statement.{statement}
 use Rattle.basin.proofs.file.first_out.Tie as tie
 
-first-out-sub-requires : tie.Need-first-out-sub-requires
-first-out-sub-requires c κs = search needs
-
-mul-if1 : tie.Need-mul-if1
-mul-if1 c = search needs
-
 returns : tie.Need-returns
 returns c = out-sub _ _ _ (c .before .first-out-sub .ensures) (c .if1 .taken)
-
-first-out-reach-requires : tie.Need-first-out-reach-requires
-first-out-reach-requires c κs = search needs
 
 add-result : tie.Need-add-result
 add-result c =
@@ -27,4 +18,4 @@ returns-2 : tie.Need-returns-2
 returns-2 c = out-reach _ _ _ (c .before .before .first-out-sub .ensures) (c .before .if1 .left) (c .first-out-reach .ensures)
 
 pub first-out-spec : {M : Type 1} → statement M
-first-out-spec = tie.close (tie.spec first-out-sub-requires mul-if1 returns first-out-reach-requires add-result returns-2)
+first-out-spec = tie.close (tie.spec (λ c κs. search needs) (λ c. search needs) returns (λ c κs. search needs) add-result returns-2)

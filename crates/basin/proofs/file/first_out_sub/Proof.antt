@@ -18,15 +18,6 @@ abbrev μ-loop : tie.MeasureT-loop
 loop-holds : tie.Need-loop-holds Inv-loop μ-loop
 loop-holds c = search-begin (in-subs _ _) _
 
-sub-at-requires : tie.Need-sub-at-requires Inv-loop μ-loop
-sub-at-requires c κs = omega arith
-
-first-outside-requires : tie.Need-first-outside-requires Inv-loop μ-loop
-first-outside-requires c κs = tt
-
-mul-result : tie.Need-mul-result Inv-loop μ-loop
-mul-result c = omega arith
-
 add-result : tie.Need-add-result Inv-loop μ-loop
 add-result c = omega (arith, sub-part-le _ _ (c .before .first-outside .ensures))
 
@@ -36,20 +27,11 @@ returns c =
     search-found (in-subs _ _) (at .before .before .loop .inv) (at .before .loop-test .taken)
     (sub-part _ _ _ (at .sub-at .ensures) (c .before .first-outside .ensures)) (c .if1 .taken)
 
-add-i : tie.Need-add-i Inv-loop μ-loop
-add-i c = omega arith
-
-loop-less : tie.Need-loop-less Inv-loop μ-loop
-loop-less c = omega arith
-
 loop-again : tie.Need-loop-again Inv-loop μ-loop
 loop-again c =
     let at = c .before .before in
     search-turn (in-subs _ _) (at .before .before .loop .inv) (at .before .loop-test .taken)
     (sub-part _ _ _ (at .sub-at .ensures) (c .before .first-outside .ensures)) (c .if1 .left)
-
-mul-result-2 : tie.Need-mul-result-2 Inv-loop μ-loop
-mul-result-2 c = omega arith
 
 returns-2 : tie.Need-returns-2 Inv-loop μ-loop
 returns-2 c = search-none (in-subs _ _) (c .before .loop .inv) (c .loop-test .left)
@@ -57,17 +39,5 @@ returns-2 c = search-none (in-subs _ _) (c .before .loop .inv) (c .loop-test .le
 pub first-out-sub-spec : {M : Type 1} → statement M
 first-out-sub-spec =
     tie.close
-    (tie.spec
-    Inv-loop
-    μ-loop
-    loop-holds
-    sub-at-requires
-    first-outside-requires
-    mul-result
-    add-result
-    returns
-    add-i
-    loop-less
-    loop-again
-    mul-result-2
-    returns-2)
+    (tie.spec Inv-loop μ-loop loop-holds (λ c κs. omega arith) (λ c κs. tt) (λ c. omega arith) add-result returns (λ c. omega arith)
+    (λ c. omega arith) loop-again (λ c. omega arith) returns-2)

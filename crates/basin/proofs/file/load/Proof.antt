@@ -16,36 +16,18 @@ use Rattle.basin.proofs.file.load.Tie as tie
 answered : (f : List ℕ) {loaded : Loaded} → loaded ≡ loadCall f → (loaded ≡ loadCall f) × Demand3 f loaded
 answered f e = (e, demand-3 f e)
 
-refuse-requires : tie.Need-refuse-requires
-refuse-requires c κs = search needs
-
 returns : tie.Need-returns
 returns c = answered _ (c .refuse .ensures ∙ load-short _ (c .before .if1 .taken))
-
-word-requires : tie.Need-word-requires
-word-requires c κs = search needs
-
-refuse-requires-2 : tie.Need-refuse-requires-2
-refuse-requires-2 c κs = search needs
 
 returns-2 : tie.Need-returns-2
 returns-2 c =
     let read-n = c .before .before in
     answered _ (c .refuse2 .ensures ∙ load-n _ (read-n .before .if1 .left) (read-n .word .ensures .0) (λ l h. omega arith))
 
-refuse-requires-3 : tie.Need-refuse-requires-3
-refuse-requires-3 c κs = search needs
-
 returns-3 : tie.Need-returns-3
 returns-3 c =
     let read-n = c .before .before .before in
     answered _ (c .refuse3 .ensures ∙ load-n _ (read-n .before .if1 .left) (read-n .word .ensures .0) (λ l h. omega arith))
-
-word-requires-2 : tie.Need-word-requires-2
-word-requires-2 c κs = search needs
-
-refuse-requires-4 : tie.Need-refuse-requires-4
-refuse-requires-4 c κs = search needs
 
 returns-4 : tie.Need-returns-4
 returns-4 c =
@@ -56,24 +38,6 @@ returns-4 c =
     ∙ load-m _ (read-n .before .if1 .left) (read-n .word .ensures .0) (omega arith) (omega arith) (read-m .word2 .ensures .0)
     (c .before .if4 .taken))
 
-mul-words : tie.Need-mul-words
-mul-words c = search needs
-
-mul-words-2 : tie.Need-mul-words-2
-mul-words-2 c = search needs
-
-add-words : tie.Need-add-words
-add-words c = search needs
-
-add-if5 : tie.Need-add-if5
-add-if5 c = search needs
-
-mul-if5 : tie.Need-mul-if5
-mul-if5 c = search needs
-
-refuse-requires-5 : tie.Need-refuse-requires-5
-refuse-requires-5 c κs = search needs
-
 returns-5 : tie.Need-returns-5
 returns-5 c =
     let read-m = c .before .before .before in
@@ -83,14 +47,8 @@ returns-5 c =
     ∙ load-size _ (read-n .before .if1 .left) (read-n .word .ensures .0) (omega arith) (omega arith) (read-m .word2 .ensures .0) (omega arith)
     (c .before .if5 .taken))
 
-first-out-requires : tie.Need-first-out-requires
-first-out-requires c κs = search needs
-
 add-refuse : tie.Need-add-refuse
 add-refuse c = omega (arith, out-le _ _ _ (c .before .first-out .ensures))
-
-refuse-requires-6 : tie.Need-refuse-requires-6
-refuse-requires-6 c κs = search needs
 
 returns-6 : tie.Need-returns-6
 returns-6 c =
@@ -101,12 +59,6 @@ returns-6 c =
     (c .refuse6 .ensures
     ∙ load-word _ (read-n .before .if1 .left) (read-n .word .ensures .0) (omega arith) (omega arith) (read-m .word2 .ensures .0) (omega arith)
     (looked .before .if5 .left) (looked .first-out .ensures) (c .before .if6 .taken))
-
-subs-of-requires : tie.Need-subs-of-requires
-subs-of-requires c κs = search needs
-
-reaches-of-requires : tie.Need-reaches-of-requires
-reaches-of-requires c κs = search needs
 
 returns-7 : tie.Need-returns-7
 returns-7 c =
@@ -121,28 +73,7 @@ returns-7 c =
 pub load-spec : {M : Type 1} → statement M
 load-spec =
     tie.close
-    (tie.spec
-    refuse-requires
-    returns
-    word-requires
-    refuse-requires-2
-    returns-2
-    refuse-requires-3
-    returns-3
-    word-requires-2
-    refuse-requires-4
-    returns-4
-    mul-words
-    mul-words-2
-    add-words
-    add-if5
-    mul-if5
-    refuse-requires-5
-    returns-5
-    first-out-requires
-    add-refuse
-    refuse-requires-6
-    returns-6
-    subs-of-requires
-    reaches-of-requires
-    returns-7)
+    (tie.spec (λ c κs. search needs) returns (λ c κs. search needs) (λ c κs. search needs) returns-2 (λ c κs. search needs) returns-3
+    (λ c κs. search needs) (λ c κs. search needs) returns-4 (λ c. search needs) (λ c. search needs) (λ c. search needs) (λ c. search needs)
+    (λ c. search needs) (λ c κs. search needs) returns-5 (λ c κs. search needs) add-refuse (λ c κs. search needs) returns-6
+    (λ c κs. search needs) (λ c κs. search needs) returns-7)

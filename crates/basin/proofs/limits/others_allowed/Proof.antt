@@ -5,9 +5,6 @@ use Rattle.basin.proofs.limits.LimitsLaws.{counts-limits, counts-fail, 
 use Rattle.basin.proofs.limits.others_allowed.Statement.{statement}
 use Rattle.basin.proofs.limits.others_allowed.Tie as tie
 
-counts-allowed-requires : tie.Need-counts-allowed-requires
-counts-allowed-requires c κs = search needs
-
 subs-blank-requires : tie.Need-subs-blank-requires
 subs-blank-requires c κs = counts-limits _ _ (sym (c .before .before .counts-allowed .ensures) ∙ c .before .if1 .taken) .n-most
 
@@ -47,12 +44,4 @@ returns-4 c = counts-fail _ (c .before .counts-allowed .ensures) (c .if1 .left)
 pub others-allowed-spec : {M : Type 1} → statement M
 others-allowed-spec =
     tie.close
-    (tie.spec
-    counts-allowed-requires
-    subs-blank-requires
-    reaches-used-requires
-    reaches-blank-requires
-    returns
-    returns-2
-    returns-3
-    returns-4)
+    (tie.spec (λ c κs. search needs) subs-blank-requires reaches-used-requires reaches-blank-requires returns returns-2 returns-3 returns-4)

@@ -16,30 +16,6 @@ Inv-loop m reaches k₀ k = Trying (λ j. isBlankReach (getD reaches (m + j) bla
 abbrev μ-loop : tie.MeasureT-loop
 μ-loop m reaches k₀ k = mostM - m - k
 
-loop-holds : tie.Need-loop-holds Inv-loop μ-loop
-loop-holds c = try-begin
-
-sub-loop : tie.Need-sub-loop Inv-loop μ-loop
-sub-loop c = omega arith
-
-add-r : tie.Need-add-r Inv-loop μ-loop
-add-r c = omega arith
-
-mul-r : tie.Need-mul-r Inv-loop μ-loop
-mul-r c = omega arith
-
-array-copy-out-r : tie.Need-array-copy-out-r Inv-loop μ-loop
-array-copy-out-r c = omega arith
-
-is-blank-requires : tie.Need-is-blank-requires Inv-loop μ-loop
-is-blank-requires c κs = tt
-
-add-k : tie.Need-add-k Inv-loop μ-loop
-add-k c = omega arith
-
-loop-less : tie.Need-loop-less Inv-loop μ-loop
-loop-less c = omega arith
-
 loop-again : tie.Need-loop-again Inv-loop μ-loop
 loop-again c = try-turn (c .before .before .before .before .loop .inv) (omega arith) (sym (c .before .is-blank .ensures) ∙ c .if1 .taken)
 
@@ -54,4 +30,5 @@ returns-2 c = try-end (c .before .loop .inv) (c .loop-test .left)
 pub reaches-blank-spec : {M : Type 1} → statement M
 reaches-blank-spec =
     tie.close
-    (tie.spec Inv-loop μ-loop loop-holds sub-loop add-r mul-r array-copy-out-r is-blank-requires add-k loop-less loop-again returns returns-2)
+    (tie.spec Inv-loop μ-loop (λ c. try-begin) (λ c. omega arith) (λ c. omega arith) (λ c. omega arith) (λ c. omega arith) (λ c κs. tt)
+    (λ c. omega arith) (λ c. omega arith) loop-again returns returns-2)

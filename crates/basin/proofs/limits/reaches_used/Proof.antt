@@ -16,27 +16,6 @@ Inv-loop m reaches j₀ j = Trying (λ k. reachIn m (suc k) (getD reaches k blan
 abbrev μ-loop : tie.MeasureT-loop
 μ-loop m reaches j₀ j = m - j
 
-loop-holds : tie.Need-loop-holds Inv-loop μ-loop
-loop-holds c = try-begin
-
-mul-r : tie.Need-mul-r Inv-loop μ-loop
-mul-r c = omega arith
-
-array-copy-out-r : tie.Need-array-copy-out-r Inv-loop μ-loop
-array-copy-out-r c = omega arith
-
-add-allowed : tie.Need-add-allowed Inv-loop μ-loop
-add-allowed c = omega arith
-
-allowed-requires : tie.Need-allowed-requires Inv-loop μ-loop
-allowed-requires c κs = tt
-
-add-j : tie.Need-add-j Inv-loop μ-loop
-add-j c = omega arith
-
-loop-less : tie.Need-loop-less Inv-loop μ-loop
-loop-less c = omega arith
-
 loop-again : tie.Need-loop-again Inv-loop μ-loop
 loop-again c =
     let at = c .before .before .before .before .loop in
@@ -55,4 +34,5 @@ returns-2 c = try-end (c .before .loop .inv) (c .loop-test .left)
 pub reaches-used-spec : {M : Type 1} → statement M
 reaches-used-spec =
     tie.close
-    (tie.spec Inv-loop μ-loop loop-holds mul-r array-copy-out-r add-allowed allowed-requires add-j loop-less loop-again returns returns-2)
+    (tie.spec Inv-loop μ-loop (λ c. try-begin) (λ c. omega arith) (λ c. omega arith) (λ c. omega arith) (λ c κs. tt) (λ c. omega arith)
+    (λ c. omega arith) loop-again returns returns-2)

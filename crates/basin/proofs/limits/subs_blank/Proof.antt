@@ -17,30 +17,6 @@ Inv-loop n subs k₀ k = Trying (λ i. isBlank (getD subs (n + i) blankSub)) (mo
 abbrev μ-loop : tie.MeasureT-loop
 μ-loop n subs k₀ k = mostN - n - k
 
-loop-holds : tie.Need-loop-holds Inv-loop μ-loop
-loop-holds c = try-begin
-
-sub-loop : tie.Need-sub-loop Inv-loop μ-loop
-sub-loop c = omega arith
-
-add-s : tie.Need-add-s Inv-loop μ-loop
-add-s c = omega arith
-
-mul-s : tie.Need-mul-s Inv-loop μ-loop
-mul-s c = omega arith
-
-array-copy-out-s : tie.Need-array-copy-out-s Inv-loop μ-loop
-array-copy-out-s c = omega arith
-
-is-blank-requires : tie.Need-is-blank-requires Inv-loop μ-loop
-is-blank-requires c κs = tt
-
-add-k : tie.Need-add-k Inv-loop μ-loop
-add-k c = omega arith
-
-loop-less : tie.Need-loop-less Inv-loop μ-loop
-loop-less c = omega arith
-
 loop-again : tie.Need-loop-again Inv-loop μ-loop
 loop-again c =
     let test = c .before .before .before in
@@ -65,4 +41,5 @@ returns-2 c = try-end (c .before .loop .inv) (c .loop-test .left)
 pub subs-blank-spec : {M : Type 1} → statement M
 subs-blank-spec =
     tie.close
-    (tie.spec Inv-loop μ-loop loop-holds sub-loop add-s mul-s array-copy-out-s is-blank-requires add-k loop-less loop-again returns returns-2)
+    (tie.spec Inv-loop μ-loop (λ c. try-begin) (λ c. omega arith) (λ c. omega arith) (λ c. omega arith) (λ c. omega arith) (λ c κs. tt)
+    (λ c. omega arith) (λ c. omega arith) loop-again returns returns-2)

@@ -16,24 +16,6 @@ Inv-loop n m subs i₀ i = Trying (λ k. recordIn m (getD subs k blankSub)) n i
 abbrev μ-loop : tie.MeasureT-loop
 μ-loop n m subs i₀ i = n - i
 
-loop-holds : tie.Need-loop-holds Inv-loop μ-loop
-loop-holds c = try-begin
-
-mul-s : tie.Need-mul-s Inv-loop μ-loop
-mul-s c = omega arith
-
-array-copy-out-s : tie.Need-array-copy-out-s Inv-loop μ-loop
-array-copy-out-s c = omega arith
-
-allowed-requires : tie.Need-allowed-requires Inv-loop μ-loop
-allowed-requires c κs = tt
-
-add-i : tie.Need-add-i Inv-loop μ-loop
-add-i c = omega arith
-
-loop-less : tie.Need-loop-less Inv-loop μ-loop
-loop-less c = omega arith
-
 loop-again : tie.Need-loop-again Inv-loop μ-loop
 loop-again c =
     let test = c .before .before .before in
@@ -55,4 +37,6 @@ returns-2 c = try-end (c .before .loop .inv) (c .loop-test .left)
 
 pub subs-used-spec : {M : Type 1} → statement M
 subs-used-spec =
-    tie.close (tie.spec Inv-loop μ-loop loop-holds mul-s array-copy-out-s allowed-requires add-i loop-less loop-again returns returns-2)
+    tie.close
+    (tie.spec Inv-loop μ-loop (λ c. try-begin) (λ c. omega arith) (λ c. omega arith) (λ c κs. tt) (λ c. omega arith) (λ c. omega arith)
+    loop-again returns returns-2)

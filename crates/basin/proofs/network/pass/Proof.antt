@@ -26,11 +26,8 @@ module _ (r : Reach) (i : ℕ) (h : Passing r i) {x : Released} (called : x ≡ 
 add-t6 : tie.Need-add-t6
 add-t6 c = omega (arith, c .before .pre .shares-most)
 
-take-requires : tie.Need-take-requires
-take-requires c κs = search needs
-
 returns : tie.Need-returns
 returns c = passes _ _ (c .before .before .before .pre) (c .before .take .ensures)
 
 pub pass-spec : {M : Type 1} → statement M
-pass-spec = tie.close (tie.spec add-t6 take-requires returns)
+pass-spec = tie.close (tie.spec add-t6 (λ c κs. search needs) returns)

@@ -66,14 +66,8 @@ add-held c = omega (arith, held-fits _ _ _ (c .before .before .before .before .b
 add-i : tie.Need-add-i Inv-loop μ-loop
 add-i c = omega (arith, c .before .before .before .before .before .before .loop .inv .flowing .m-most)
 
-loop-less : tie.Need-loop-less Inv-loop μ-loop
-loop-less c = omega arith
-
 loop-again : tie.Need-loop-again Inv-loop μ-loop
 loop-again c = routing-turn _ _ _ (c .before .before .before .before .before .before .loop .inv) (c .before .before .before .before .before .loop-test .taken) _ (c .before .before .before .pass .ensures)
-
-array-read-t35 : tie.Need-array-read-t35 Inv-loop μ-loop
-array-read-t35 c = omega arith
 
 returns : tie.Need-returns Inv-loop μ-loop
 returns c = routing-end _ _ _ (c .before .loop .inv) (c .loop-test .left)
@@ -81,28 +75,6 @@ returns c = routing-end _ _ _ (c .before .loop .inv) (c .loop-test .left)
 pub route-spec : {M : Type 1} → statement M
 route-spec =
     tie.close
-    (tie.spec
-    Inv-loop
-    μ-loop
-    loop-holds
-    add-j
-    mul-r
-    array-copy-out-r
-    mul-pass
-    array-read-pass
-    pass-requires
-    mul-after
-    array-set-from-after
-    mul-pending
-    array-write-pending
-    mul-pending-2
-    array-read-pending
-    add-pending
-    mul-pending-3
-    array-write-pending-2
-    add-held
-    add-i
-    loop-less
-    loop-again
-    array-read-t35
-    returns)
+    (tie.spec Inv-loop μ-loop loop-holds add-j mul-r array-copy-out-r mul-pass array-read-pass pass-requires mul-after array-set-from-after
+    mul-pending array-write-pending mul-pending-2 array-read-pending add-pending mul-pending-3 array-write-pending-2 add-held add-i
+    (λ c. omega arith) loop-again (λ c. omega arith) returns)

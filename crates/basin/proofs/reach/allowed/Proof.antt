@@ -5,9 +5,6 @@ use Rattle.basin.proofs.reach.ReachLaws.{words-outside, content-outside
 use Rattle.basin.proofs.reach.allowed.Statement.{statement}
 use Rattle.basin.proofs.reach.allowed.Tie as tie
 
-first-outside-requires : tie.Need-first-outside-requires
-first-outside-requires c κs = search needs
-
 returns : tie.Need-returns
 returns c = words-outside _ _ _ (c .before .first-outside .ensures) (c .if1 .taken)
 
@@ -18,4 +15,4 @@ returns-3 : tie.Need-returns-3
 returns-3 c = all-inside _ _ _ (c .before .before .before .first-outside .ensures) (omega arith) (c .if2 .left)
 
 pub allowed-spec : {M : Type 1} → statement M
-allowed-spec = tie.close (tie.spec first-outside-requires returns returns-2 returns-3)
+allowed-spec = tie.close (tie.spec (λ c κs. search needs) returns returns-2 returns-3)

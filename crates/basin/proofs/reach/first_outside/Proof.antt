@@ -13,9 +13,6 @@ returns c = first-at _ 0 tt (λ l h. omega arith)
 returns-2 : tie.Need-returns-2
 returns-2 c = first-at _ 1 (omega arith) (λ l h. omega arith)
 
-add-g : tie.Need-add-g
-add-g c = search needs
-
 returns-3 : tie.Need-returns-3
 returns-3 c = first-at _ 1 (omega arith) (λ l h. omega arith)
 
@@ -37,4 +34,4 @@ returns-8 c =
     sym (first-all _ (omega arith, omega arith, (omega arith, omega arith, (after-in _ _ (λ n. omega arith), omega arith, tt))))
 
 pub first-outside-spec : {M : Type 1} → statement M
-first-outside-spec = tie.close (tie.spec returns returns-2 add-g returns-3 returns-4 returns-5 returns-6 returns-7 returns-8)
+first-outside-spec = tie.close (tie.spec returns returns-2 (λ c. search needs) returns-3 returns-4 returns-5 returns-6 returns-7 returns-8)

@@ -5,9 +5,6 @@ use Rattle.basin.proofs.limits.LimitsLaws.{others-limits, basin-used, b
 use Rattle.basin.proofs.state.allowed.Statement.{statement}
 use Rattle.basin.proofs.state.allowed.Tie as tie
 
-others-allowed-requires : tie.Need-others-allowed-requires
-others-allowed-requires c κs = search needs
-
 subs-used-requires : tie.Need-subs-used-requires
 subs-used-requires c κs = others-limits _ (sym (c .before .before .others-allowed .ensures) ∙ c .before .if1 .taken) .n-most
 
@@ -18,4 +15,4 @@ returns-2 : tie.Need-returns-2
 returns-2 c = sym (basin-others _ (sym (c .before .others-allowed .ensures) ∙ c .if1 .left))
 
 pub allowed-spec : {M : Type 1} → statement M
-allowed-spec = tie.close (tie.spec others-allowed-requires subs-used-requires returns returns-2)
+allowed-spec = tie.close (tie.spec (λ c κs. search needs) subs-used-requires returns returns-2)

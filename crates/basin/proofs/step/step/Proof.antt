@@ -13,12 +13,6 @@ use Rattle.basin.proofs.step.step.Tie as tie
 others-in : (c : tie.After-subs-used) → othersIn (c .before .before .before .before .before .before .before .args .b) ≡ true
 others-in c = sym (c .before .before .before .before .before .others-allowed .ensures) ∙ c .before .before .before .before .if1 .taken
 
-read-requires : tie.Need-read-requires
-read-requires c κs = search needs
-
-others-allowed-requires : tie.Need-others-allowed-requires
-others-allowed-requires c κs = search needs
-
 take-requires : tie.Need-take-requires
 take-requires c κs =
     let judged = c .before .before .before in
@@ -30,20 +24,11 @@ returns c = c .take .ensures ∙ call-accepted _ _ _ (c .before .before .before 
 subs-used-requires : tie.Need-subs-used-requires
 subs-used-requires c κs = others-limits _ (sym (c .before .before .before .before .others-allowed .ensures) ∙ c .before .before .before .if1 .taken) .n-most
 
-refuse-requires : tie.Need-refuse-requires
-refuse-requires c κs = search needs
-
 returns-2 : tie.Need-returns-2
 returns-2 c = c .refuse .ensures ∙ call-refused _ _ _ (c .before .before .before .before .before .before .before .before .read .ensures) (others-in (c .before .before)) (c .before .before .before .before .if2 .left) (c .before .before .subs-used .ensures) (c .before .if3 .taken)
 
-refuse-requires-2 : tie.Need-refuse-requires-2
-refuse-requires-2 c κs = search needs
-
 returns-3 : tie.Need-returns-3
 returns-3 c = c .refuse2 .ensures ∙ subs-outside _ _ _ (c .before .before .before .before .before .before .before .before .read .ensures) (others-in (c .before .before)) (c .before .before .before .before .if2 .left) (c .before .before .subs-used .ensures) (c .before .if3 .left)
-
-refuse-requires-3 : tie.Need-refuse-requires-3
-refuse-requires-3 c κs = search needs
 
 returns-4 : tie.Need-returns-4
 returns-4 c = c .refuse3 .ensures ∙ others-outside _ _ _ (sym (c .before .before .others-allowed .ensures) ∙ c .before .if1 .left)
@@ -51,15 +36,5 @@ returns-4 c = c .refuse3 .ensures ∙ others-outside _ _ _ (sym (c .before .befo
 pub step-spec : {M : Type 1} → statement M
 step-spec =
     tie.close
-    (tie.spec
-    read-requires
-    others-allowed-requires
-    take-requires
-    returns
-    subs-used-requires
-    refuse-requires
-    returns-2
-    refuse-requires-2
-    returns-3
-    refuse-requires-3
-    returns-4)
+    (tie.spec (λ c κs. search needs) (λ c κs. search needs) take-requires returns subs-used-requires (λ c κs. search needs) returns-2
+    (λ c κs. search needs) returns-3 (λ c κs. search needs) returns-4)

@@ -92,27 +92,6 @@ returns-2 c = stepping-end _ _ (c .before .loop .inv) (c .loop-test .left)
 pub step-subs-spec : {M : Type 1} → statement M
 step-subs-spec =
     tie.close
-    (tie.spec
-    Inv-loop
-    μ-loop
-    loop-holds
-    mul-s
-    array-copy-out-s
-    mul-w
-    array-copy-out-w
-    take-turn-requires
-    returns
-    mul-subs
-    array-set-from-subs
-    mul-sent
-    array-read-sent
-    add-sent
-    mul-sent-2
-    array-write-sent
-    add-rain
-    add-loss
-    add-held
-    add-i
-    loop-less
-    loop-again
+    (tie.spec Inv-loop μ-loop loop-holds mul-s array-copy-out-s mul-w array-copy-out-w take-turn-requires returns mul-subs
+    array-set-from-subs mul-sent array-read-sent add-sent mul-sent-2 array-write-sent add-rain add-loss add-held add-i loop-less loop-again
     returns-2)

@@ -13,9 +13,6 @@ step-subs-requires c κs =
     let others = others-limits _ (pre .0) in
     (others .n-most, others .m-most, pre .1)
 
-refuse-requires : tie.Need-refuse-requires
-refuse-requires c κs = search needs
-
 returns : tie.Need-returns
 returns c = c .refuse .ensures ∙ subs-refuse _ _ (c .before .before .before .before .before .before .pre .0) (c .before .before .before .step-subs .ensures) (c .before .if1 .taken)
 
@@ -31,4 +28,4 @@ returns-2 : tie.Need-returns-2
 returns-2 c = taken-is _ _ (c .before .before .before .before .before .before .before .before .before .before .before .before .pre .0) (c .before .before .before .before .before .before .before .before .before .step-subs .ensures) (c .before .before .before .before .before .before .before .if1 .left) (c .before .before .before .before .route .ensures)
 
 pub take-spec : {M : Type 1} → statement M
-take-spec = tie.close (tie.spec step-subs-requires refuse-requires returns route-requires add-t13 returns-2)
+take-spec = tie.close (tie.spec step-subs-requires (λ c κs. search needs) returns route-requires add-t13 returns-2)

@@ -13,17 +13,8 @@ module _ (c : tie.Else2) where
   fits : Fits (start .args .m) (start .args .s) (start .args .w) (start .pre .1) (c .before .before .step .ensures) (c .before .before .before .if1 .left) (c .if2 .left)
   fits = turn-fits (start .args .m) (start .args .s) (start .args .w) (start .pre .1) (c .before .before .step .ensures) (c .before .before .before .if1 .left) (c .if2 .left)
 
-refused-requires : tie.Need-refused-requires
-refused-requires c κs = search needs
-
 returns : tie.Need-returns
 returns c = turn-refused _ _ _ (reach-outside _ _ (c .before .before .before .before .args .w) (c .before .if1 .taken)) (c .refused .ensures)
-
-step-requires : tie.Need-step-requires
-step-requires c κs = search needs
-
-refused-requires-2 : tie.Need-refused-requires-2
-refused-requires-2 c κs = search needs
 
 returns-2 : tie.Need-returns-2
 returns-2 c =
@@ -41,9 +32,6 @@ add-t10 c = omega (arith, fits (c .before .before .before .before .before) .dept
 mul-t11 : tie.Need-mul-t11
 mul-t11 c = omega (arith, fits (c .before .before .before .before .before .before) .loss-most)
 
-water-of-requires : tie.Need-water-of-requires
-water-of-requires c κs = search needs
-
 returns-3 : tie.Need-returns-3
 returns-3 c =
     let accepted = c .before .before .before .before .before .before .before in
@@ -52,15 +40,5 @@ returns-3 c =
 pub take-turn-spec : {M : Type 1} → statement M
 take-turn-spec =
     tie.close
-    (tie.spec
-    refused-requires
-    returns
-    step-requires
-    refused-requires-2
-    returns-2
-    mul-t8
-    add-t9
-    add-t10
-    mul-t11
-    water-of-requires
-    returns-3)
+    (tie.spec (λ c κs. search needs) returns (λ c κs. search needs) (λ c κs. search needs) returns-2 mul-t8 add-t9 add-t10 mul-t11
+    (λ c κs. search needs) returns-3)

@@ -8,6 +8,6 @@ use Rattle.basin_series.proofs.limits.each.Tie as tie
 
 pub each-spec : {M : Type 1} → statement M
 each-spec =
-    tie.close (tie.spec (λ count s₀ place₀ s place. place ≤ count)
-    (λ count s₀ place₀ s place. count - place)
-    (λ c. omega arith) (λ c κs. search needs) (λ c. omega arith) (λ c. omega arith) (λ c. omega arith) (λ c. omega arith))
+    tie.close
+    (tie.spec (λ count s₀ place₀ s place. place ≤ count) (λ count s₀ place₀ s place. count - place) (λ c. omega arith)
+    (λ c κs. search needs) (λ c. omega arith) (λ c. omega arith) (λ c. omega arith) (λ c. omega arith))

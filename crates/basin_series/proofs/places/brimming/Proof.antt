@@ -8,6 +8,6 @@ use Rattle.basin_series.proofs.places.brimming.Tie as tie
 
 pub brimming-spec : {M : Type 1} → statement M
 brimming-spec =
-    tie.close (tie.spec (λ count at-once b₀ place₀ b place. place ≤ count)
-    (λ count at-once b₀ place₀ b place. count - place)
-    (λ c. omega arith) (λ c κs. search needs) (λ c. omega arith) (λ c. omega arith) (λ c. omega arith) (λ c. omega arith))
+    tie.close
+    (tie.spec (λ count at-once b₀ place₀ b place. place ≤ count) (λ count at-once b₀ place₀ b place. count - place) (λ c. omega arith)
+    (λ c κs. search needs) (λ c. omega arith) (λ c. omega arith) (λ c. omega arith) (λ c. omega arith))

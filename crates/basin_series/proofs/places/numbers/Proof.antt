@@ -8,7 +8,6 @@ use Rattle.basin_series.proofs.places.numbers.Tie as tie
 
 pub numbers-spec : {M : Type 1} → statement M
 numbers-spec =
-    tie.close (tie.spec (λ b count place₀ place. place ≤ count)
-    (λ b count place₀ place. count - place)
-    (λ c. omega arith) (λ c κs. search needs) (λ c κs. search needs) (λ c. omega arith) (λ c. omega arith) (λ c. omega arith)
-    (λ c. omega arith))
+    tie.close
+    (tie.spec (λ b count place₀ place. place ≤ count) (λ b count place₀ place. count - place) (λ c. omega arith) (λ c κs. search needs)
+    (λ c κs. search needs) (λ c. omega arith) (λ c. omega arith) (λ c. omega arith) (λ c. omega arith))

@@ -8,7 +8,6 @@ use Rattle.basin_series.proofs.plan.rows.Tie as tie
 
 pub rows-spec : {M : Type 1} → statement M
 rows-spec =
-    tie.close (tie.spec (λ x₀ k₀ x k. k ≤ 128)
-    (λ x₀ k₀ x k. 128 - k)
-    (λ c. omega arith) (λ c κs. search needs) (λ c κs. search needs) (λ c. omega arith) (λ c. omega arith) (λ c. omega arith)
-    (λ c. omega arith))
+    tie.close
+    (tie.spec (λ x₀ k₀ x k. k ≤ 128) (λ x₀ k₀ x k. 128 - k) (λ c. omega arith) (λ c κs. search needs) (λ c κs. search needs)
+    (λ c. omega arith) (λ c. omega arith) (λ c. omega arith) (λ c. omega arith))

@@ -8,6 +8,6 @@ use Rattle.basin_series.proofs.series.run.Tie as tie
 
 pub run-spec : {M : Type 1} → statement M
 run-spec =
-    tie.close (tie.spec (λ count s₀ i₀ s i. i ≤ count)
-    (λ count s₀ i₀ s i. count - i)
-    (λ c. omega arith) (λ c κs. search needs) (λ c. omega arith) (λ c. omega arith) (λ c. omega arith) (λ c. omega arith))
+    tie.close
+    (tie.spec (λ count s₀ i₀ s i. i ≤ count) (λ count s₀ i₀ s i. count - i) (λ c. omega arith) (λ c κs. search needs) (λ c. omega arith)
+    (λ c. omega arith) (λ c. omega arith) (λ c. omega arith))

@@ -8,7 +8,6 @@ use Rattle.basin_series.proofs.weather.drawn.Tie as tie
 
 pub drawn-spec : {M : Type 1} → statement M
 drawn-spec =
-    tie.close (tie.spec (λ i x s₀ k₀ s k. k ≤ 32)
-    (λ i x s₀ k₀ s k. 32 - k)
-    (λ c κs. search needs) (λ c. omega arith) (λ c κs. search needs) (λ c. omega arith) (λ c. omega arith) (λ c. omega arith)
-    (λ c. omega arith))
+    tie.close
+    (tie.spec (λ i x s₀ k₀ s k. k ≤ 32) (λ i x s₀ k₀ s k. 32 - k) (λ c κs. search needs) (λ c. omega arith) (λ c κs. search needs)
+    (λ c. omega arith) (λ c. omega arith) (λ c. omega arith) (λ c. omega arith))

@@ -8,7 +8,6 @@ use Rattle.basin_testing.proofs.checksum.fold_reaches.Tie as tie
 
 pub fold-reaches-spec : {M : Type 1} → statement M
 fold-reaches-spec =
-    tie.close (tie.spec (λ h reaches h₀ j₀ h' j. j ≤ 31)
-    (λ h reaches h₀ j₀ h' j. 31 - j)
-    (λ c. omega arith) (λ c. omega arith) (λ c. omega arith) (λ c κs. search needs) (λ c. omega arith) (λ c. omega arith)
-    (λ c. omega arith) (λ c. omega arith))
+    tie.close
+    (tie.spec (λ h reaches h₀ j₀ h' j. j ≤ 31) (λ h reaches h₀ j₀ h' j. 31 - j) (λ c. omega arith) (λ c. omega arith) (λ c. omega arith)
+    (λ c κs. search needs) (λ c. omega arith) (λ c. omega arith) (λ c. omega arith) (λ c. omega arith))

@@ -20,9 +20,6 @@ fits {a} {b} z h = omega (arith, le-div-iff-mul-le z .0 h)
 returns : tie.Need-returns
 returns c = none _ (c .if1 .taken)
 
-div-if2 : tie.Need-div-if2
-div-if2 c = search needs
-
 returns-2 : tie.Need-returns-2
 returns-2 c = omega (arith, too-much (omega arith) (c .if2 .taken))
 
@@ -33,4 +30,4 @@ returns-3 : tie.Need-returns-3
 returns-3 c = omega (arith, fits (omega arith) (c .if2 .left))
 
 pub times-spec : {M : Type 1} → statement M
-times-spec = tie.close (tie.spec returns div-if2 returns-2 mul-result returns-3)
+times-spec = tie.close (tie.spec returns (λ c. search needs) returns-2 mul-result returns-3)

@@ -15,21 +15,6 @@ abbrev μ-loop : tie.MeasureT-loop
 loop-holds : tie.Need-loop-holds Inv-loop μ-loop
 loop-holds c = total-begin
 
-mul-add : tie.Need-mul-add Inv-loop μ-loop
-mul-add c = omega arith
-
-shared-slice-read-add : tie.Need-shared-slice-read-add Inv-loop μ-loop
-shared-slice-read-add c = omega arith
-
-add-requires : tie.Need-add-requires Inv-loop μ-loop
-add-requires c κs = tt
-
-add-i : tie.Need-add-i Inv-loop μ-loop
-add-i c = omega arith
-
-loop-less : tie.Need-loop-less Inv-loop μ-loop
-loop-less c = omega arith
-
 loop-again : tie.Need-loop-again Inv-loop μ-loop
 loop-again c = total-turn (c .before .before .before .loop .inv) (c .before .before .loop-test .taken) (c .add .ensures)
 
@@ -39,14 +24,5 @@ returns c = total-end (c .before .loop .inv) (c .loop-test .left)
 pub total-spec : {M : Type 1} → statement M
 total-spec =
     tie.close
-    (tie.spec
-    Inv-loop
-    μ-loop
-    loop-holds
-    mul-add
-    shared-slice-read-add
-    add-requires
-    add-i
-    loop-less
-    loop-again
+    (tie.spec Inv-loop μ-loop loop-holds (λ c. omega arith) (λ c. omega arith) (λ c κs. tt) (λ c. omega arith) (λ c. omega arith) loop-again
     returns)

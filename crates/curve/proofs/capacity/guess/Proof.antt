@@ -18,12 +18,6 @@ slope-fits e p h k = mul-le-mul {n₁ = e} {m₁ = p} {n₂ = mostE} {m₂ = one
 slope-some : (e p : ℕ) → leastE ≤ e → (p ≡ 0 → ⊥) → 0 < e * p
 slope-some e p h n = let some : leastE * 1 ≤ e * p = mul-le-mul {n₁ = leastE} {m₁ = 1} {n₂ = e} {m₂ = p} h (omega arith) in omega arith
 
-returns : tie.Need-returns
-returns c = search needs
-
-mul-d : tie.Need-mul-d
-mul-d c = search needs
-
 mul-d-2 : tie.Need-mul-d-2
 mul-d-2 c = let at = c .before .before .args in omega (arith, step-fits (at .p - at .need) (at .t) (omega arith) (omega arith))
 
@@ -32,30 +26,6 @@ mul-d-3 c = let at = c .before .before .args in omega (arith, slope-fits (at .e)
 
 div-d : tie.Need-div-d
 div-d c = slope-some _ _ (omega arith) (c .before .if1 .left)
-
-last-of-requires : tie.Need-last-of-requires
-last-of-requires c κs = search needs
-
-add-result : tie.Need-add-result
-add-result c = search needs
-
-returns-2 : tie.Need-returns-2
-returns-2 c = search needs
-
-returns-3 : tie.Need-returns-3
-returns-3 c = search needs
-
-last-of-requires-2 : tie.Need-last-of-requires-2
-last-of-requires-2 c κs = search needs
-
-returns-4 : tie.Need-returns-4
-returns-4 c = search needs
-
-sub-d : tie.Need-sub-d
-sub-d c = search needs
-
-mul-d-4 : tie.Need-mul-d-4
-mul-d-4 c = search needs
 
 mul-d-5 : tie.Need-mul-d-5
 mul-d-5 c = let at = c .before .before .args in omega (arith, step-fits (at .need - at .p) (at .t) (omega arith) (omega arith))
@@ -75,44 +45,9 @@ add-d c =
       div-le-self ((at .need - at .p) * 16 * at .t) (at .e * at .p),
     )
 
-sub-if5 : tie.Need-sub-if5
-sub-if5 c = search needs
-
-returns-5 : tie.Need-returns-5
-returns-5 c = search needs
-
-add-last-of : tie.Need-add-last-of
-add-last-of c = search needs
-
-last-of-requires-3 : tie.Need-last-of-requires-3
-last-of-requires-3 c κs = search needs
-
-returns-6 : tie.Need-returns-6
-returns-6 c = search needs
-
 pub guess-spec : {M : Type 1} → statement M
 guess-spec =
     tie.close
-    (tie.spec
-    returns
-    mul-d
-    mul-d-2
-    mul-d-3
-    div-d
-    last-of-requires
-    add-result
-    returns-2
-    returns-3
-    last-of-requires-2
-    returns-4
-    sub-d
-    mul-d-4
-    mul-d-5
-    mul-d-6
-    div-d-2
-    add-d
-    sub-if5
-    returns-5
-    add-last-of
-    last-of-requires-3
-    returns-6)
+    (tie.spec (λ c. search needs) (λ c. search needs) mul-d-2 mul-d-3 div-d (λ c κs. search needs) (λ c. search needs) (λ c. search needs)
+    (λ c. search needs) (λ c κs. search needs) (λ c. search needs) (λ c. search needs) (λ c. search needs) mul-d-5 mul-d-6 div-d-2 add-d
+    (λ c. search needs) (λ c. search needs) (λ c. search needs) (λ c κs. search needs) (λ c. search needs))

@@ -7,28 +7,16 @@ use Rattle.curve.proofs.capacity.CallLaws.{outside-yes, outside-no, ord
 use Rattle.curve.proofs.capacity.ordinate.Statement.{statement}
 use Rattle.curve.proofs.capacity.ordinate.Tie as tie
 
-outside-requires : tie.Need-outside-requires
-outside-requires c κs = search needs
-
-refuse-requires : tie.Need-refuse-requires
-refuse-requires c κs = search needs
-
 returns : tie.Need-returns
 returns c =
     c .refuse .ensures
     ∙ sym (ordinate-refuses _ _ _ _ (λ h _. outside-yes _ _ _ (c .before .before .outside .ensures) (c .before .if1 .taken) h))
-
-refuse-requires-2 : tie.Need-refuse-requires-2
-refuse-requires-2 c κs = search needs
 
 returns-2 : tie.Need-returns-2
 returns-2 c = c .refuse2 .ensures ∙ sym (ordinate-refuses _ _ _ _ (λ _ k. omega (arith, k)))
 
 ordinate-of-requires : tie.Need-ordinate-of-requires
 ordinate-of-requires c κs = omega (arith, outside-no _ _ _ (c .before .before .outside .ensures) (c .before .if1 .left))
-
-accept-requires : tie.Need-accept-requires
-accept-requires c κs = search needs
 
 returns-3 : tie.Need-returns-3
 returns-3 c =
@@ -38,12 +26,5 @@ returns-3 c =
 pub ordinate-spec : {M : Type 1} → statement M
 ordinate-spec =
     tie.close
-    (tie.spec
-    outside-requires
-    refuse-requires
-    returns
-    refuse-requires-2
-    returns-2
-    ordinate-of-requires
-    accept-requires
-    returns-3)
+    (tie.spec (λ c κs. search needs) (λ c κs. search needs) returns (λ c κs. search needs) returns-2 ordinate-of-requires
+    (λ c κs. search needs) returns-3)

@@ -27,21 +27,6 @@ abbrev μ-loop : tie.MeasureT-loop
 returns : tie.Need-returns Inv-loop μ-loop
 returns c = sym (ap (ordinate _ _ _) (c .if1 .taken) ∙ ordinate-full _ _ _ (c .before .pre .1) (c .before .pre .3))
 
-sub-need : tie.Need-sub-need Inv-loop μ-loop
-sub-need c = omega arith
-
-mul-need : tie.Need-mul-need Inv-loop μ-loop
-mul-need c = omega arith
-
-add-need : tie.Need-add-need Inv-loop μ-loop
-add-need c = omega arith
-
-sub-need-2 : tie.Need-sub-need-2 Inv-loop μ-loop
-sub-need-2 c = omega arith
-
-div-need : tie.Need-div-need Inv-loop μ-loop
-div-need c = omega arith
-
 guess-requires : tie.Need-guess-requires Inv-loop μ-loop
 guess-requires c κs = omega (arith, need-le (c .before .args .c) (c .before .args .w))
 
@@ -50,31 +35,13 @@ loop-holds c =
     let at = c .before .before .args in
     omega (arith, held-zero (at .c) (at .m) (at .e) (c .before .before .pre .1), held-top (at .c) (at .m) (at .e) (c .before .before .pre .3))
 
-sub-if2 : tie.Need-sub-if2 Inv-loop μ-loop
-sub-if2 c = omega arith
-
-between-requires : tie.Need-between-requires Inv-loop μ-loop
-between-requires c κs = omega arith
-
-point-at-requires : tie.Need-point-at-requires Inv-loop μ-loop
-point-at-requires c κs = omega arith
-
 guess-requires-2 : tie.Need-guess-requires-2 Inv-loop μ-loop
 guess-requires-2 c κs =
     let at = c .before .before .before .before .before .before .args in
     omega (arith, need-le (at .c) (at .w))
 
-one-less-requires : tie.Need-one-less-requires Inv-loop μ-loop
-one-less-requires c κs = tt
-
-loop-less : tie.Need-loop-less Inv-loop μ-loop
-loop-less c = omega arith
-
 loop-again : tie.Need-loop-again Inv-loop μ-loop
 loop-again c = omega (arith, c .before .before .before .before .point-at .ensures .0)
-
-loop-less-2 : tie.Need-loop-less-2 Inv-loop μ-loop
-loop-less-2 c = omega arith
 
 loop-again-2 : tie.Need-loop-again-2 Inv-loop μ-loop
 loop-again-2 c = omega (arith, c .before .before .before .before .point-at .ensures .0)
@@ -88,24 +55,6 @@ returns-2 c =
 pub ordinate-of-spec : {M : Type 1} → statement M
 ordinate-of-spec =
     tie.close
-    (tie.spec
-    Inv-loop
-    μ-loop
-    returns
-    sub-need
-    mul-need
-    add-need
-    sub-need-2
-    div-need
-    guess-requires
-    loop-holds
-    sub-if2
-    between-requires
-    point-at-requires
-    guess-requires-2
-    one-less-requires
-    loop-less
-    loop-again
-    loop-less-2
-    loop-again-2
-    returns-2)
+    (tie.spec Inv-loop μ-loop returns (λ c. omega arith) (λ c. omega arith) (λ c. omega arith) (λ c. omega arith) (λ c. omega arith)
+    guess-requires loop-holds (λ c. omega arith) (λ c κs. omega arith) (λ c κs. omega arith) guess-requires-2 (λ c κs. tt)
+    (λ c. omega arith) loop-again (λ c. omega arith) loop-again-2 returns-2)

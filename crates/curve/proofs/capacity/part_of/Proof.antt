@@ -7,9 +7,6 @@ use Rattle.curve.proofs.capacity.PowerLaws.{shares-le}
 use Rattle.curve.proofs.capacity.part_of.Statement.{statement}
 use Rattle.curve.proofs.capacity.part_of.Tie as tie
 
-div-if1 : tie.Need-div-if1
-div-if1 c = search needs
-
 mul-result : tie.Need-mul-result
 mul-result c = omega (arith, shares-le (c .before .pre .2) (c .before .pre .1))
 
@@ -22,4 +19,4 @@ unfolding part
 returns-2 c = (simp (ne-eqb _ _ (c .if1 .left)), c .before .pre .2)
 
 pub part-of-spec : {M : Type 1} → statement M
-part-of-spec = tie.close (tie.spec div-if1 mul-result returns returns-2)
+part-of-spec = tie.close (tie.spec (λ c. search needs) mul-result returns returns-2)

@@ -15,15 +15,6 @@ scaled c x h k = mul-le-mul {n₁ = c} {m₁ = x} {n₂ = mostC} {m₂ = one} h 
 part-le : (c x : ℕ) → x ≤ one → c * x / one ≤ c
 part-le c x k = omega (arith, mul-le-mul-left c k)
 
-sub-t : tie.Need-sub-t
-sub-t c = search needs
-
-mul-t : tie.Need-mul-t
-mul-t c = search needs
-
-div-t : tie.Need-div-t
-div-t c = search needs
-
 power-of-requires : tie.Need-power-of-requires
 unfolding shareAbove
 power-of-requires c κs = share-above-le-one (c .args .m) (c .args .a) (c .pre .1)
@@ -39,4 +30,4 @@ unfolding held shareAbove
 returns c = (rw (c .power-of .ensures .0), share-above-le-one (c .before .args .m) (c .before .args .a) (c .before .pre .1), c .power-of .ensures .1)
 
 pub point-at-spec : {M : Type 1} → statement M
-point-at-spec = tie.close (tie.spec sub-t mul-t div-t power-of-requires mul-t7 sub-t9 returns)
+point-at-spec = tie.close (tie.spec (λ c. search needs) (λ c. search needs) (λ c. search needs) power-of-requires mul-t7 sub-t9 returns)

@@ -36,50 +36,23 @@ module _ (t e : ℕ) where
   no-bits : e % 16 ≡ 0 → power t e ≡ whole t (e / 16)
   no-bits h = bits-8 (omega arith) ∙ part-out e 8 (root t) (whole t (e / 16)) (omega arith)
 
-whole-of-requires : tie.Need-whole-of-requires
-whole-of-requires c κs = search needs
-
 returns : tie.Need-returns
 returns c = let at = c .before .before .args in (cc (no-bits (at .t) (at .e) (c .if1 .taken)), c .before .whole-of .ensures .1)
-
-root-of-requires : tie.Need-root-of-requires
-root-of-requires c κs = search needs
-
-part-of-requires : tie.Need-part-of-requires
-part-of-requires c κs = search needs
 
 returns-2 : tie.Need-returns-2
 returns-2 c =
     let at = c .before .before .before .before .before .args in
     (cc (bits-8 (at .t) (at .e) (c .if2 .taken)), c .before .part-of .ensures .1)
 
-root-of-requires-2 : tie.Need-root-of-requires-2
-root-of-requires-2 c κs = search needs
-
-part-of-requires-2 : tie.Need-part-of-requires-2
-part-of-requires-2 c κs = search needs
-
 returns-3 : tie.Need-returns-3
 returns-3 c =
     let at = c .before .before .before .before .before .before .before .before .args in
     (cc (bits-4 (at .t) (at .e) (c .if3 .taken)), c .before .part-of2 .ensures .1)
 
-root-of-requires-3 : tie.Need-root-of-requires-3
-root-of-requires-3 c κs = search needs
-
-part-of-requires-3 : tie.Need-part-of-requires-3
-part-of-requires-3 c κs = search needs
-
 returns-4 : tie.Need-returns-4
 returns-4 c =
     let at = c .before .before .before .before .before .before .before .before .before .before .before .args in
     (cc (bits-2 (at .t) (at .e) (c .if4 .taken)), c .before .part-of3 .ensures .1)
-
-root-of-requires-4 : tie.Need-root-of-requires-4
-root-of-requires-4 c κs = search needs
-
-part-of-requires-4 : tie.Need-part-of-requires-4
-part-of-requires-4 c κs = search needs
 
 returns-5 : tie.Need-returns-5
 unfolding power
@@ -88,18 +61,6 @@ returns-5 c = (cc, c .part-of4 .ensures .1)
 pub power-of-spec : {M : Type 1} → statement M
 power-of-spec =
     tie.close
-    (tie.spec
-    whole-of-requires
-    returns
-    root-of-requires
-    part-of-requires
-    returns-2
-    root-of-requires-2
-    part-of-requires-2
-    returns-3
-    root-of-requires-3
-    part-of-requires-3
-    returns-4
-    root-of-requires-4
-    part-of-requires-4
+    (tie.spec (λ c κs. search needs) returns (λ c κs. search needs) (λ c κs. search needs) returns-2 (λ c κs. search needs)
+    (λ c κs. search needs) returns-3 (λ c κs. search needs) (λ c κs. search needs) returns-4 (λ c κs. search needs) (λ c κs. search needs)
     returns-5)

@@ -7,20 +7,11 @@ use Rattle.curve.proofs.capacity.CallLaws.{root-accepts, root-refuses}
 use Rattle.curve.proofs.capacity.root.Statement.{statement}
 use Rattle.curve.proofs.capacity.root.Tie as tie
 
-refuse-requires : tie.Need-refuse-requires
-refuse-requires c κs = search needs
-
 returns : tie.Need-returns
 returns c = c .refuse .ensures ∙ sym (root-refuses _ (λ h. omega (arith, h)))
-
-root-of-requires : tie.Need-root-of-requires
-root-of-requires c κs = search needs
-
-accept-requires : tie.Need-accept-requires
-accept-requires c κs = search needs
 
 returns-2 : tie.Need-returns-2
 returns-2 c = c .accept .ensures ∙ ap (λ v. value v) (c .before .root-of .ensures .0) ∙ sym (root-accepts _ (omega arith))
 
 pub root-spec : {M : Type 1} → statement M
-root-spec = tie.close (tie.spec refuse-requires returns root-of-requires accept-requires returns-2)
+root-spec = tie.close (tie.spec (λ c κs. search needs) returns (λ c κs. search needs) (λ c κs. search needs) returns-2)

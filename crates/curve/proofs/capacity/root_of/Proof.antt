@@ -26,12 +26,6 @@ positive : (n r : ℕ) → n < r * r → 0 < r
 positive n zero h = omega arith
 positive n (suc r) h = omega arith
 
-mul-n : tie.Need-mul-n Inv-loop μ-loop
-mul-n c = omega arith
-
-add-r : tie.Need-add-r Inv-loop μ-loop
-add-r c = omega arith
-
 loop-holds : tie.Need-loop-holds Inv-loop μ-loop
 loop-holds c = (refl, first (c .args .t), omega arith)
 
@@ -57,16 +51,4 @@ returns c = (sym (root-unique _ _ (c .loop-test .left) (c .before .loop .inv .1)
 
 pub root-of-spec : {M : Type 1} → statement M
 root-of-spec =
-    tie.close
-    (tie.spec
-    Inv-loop
-    μ-loop
-    mul-n
-    add-r
-    loop-holds
-    mul-loop
-    div-r
-    add-r-2
-    loop-less
-    loop-again
-    returns)
+    tie.close (tie.spec Inv-loop μ-loop (λ c. omega arith) (λ c. omega arith) loop-holds mul-loop div-r add-r-2 loop-less loop-again returns)

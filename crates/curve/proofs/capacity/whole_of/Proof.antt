@@ -26,12 +26,6 @@ loop-holds c = (refl, omega arith, omega arith)
 mul-x : tie.Need-mul-x Inv-loop μ-loop
 mul-x c = omega (arith, shares-le (c .before .loop .inv .1) (c .before .before .pre))
 
-add-counter : tie.Need-add-counter Inv-loop μ-loop
-add-counter c = omega arith
-
-loop-less : tie.Need-loop-less Inv-loop μ-loop
-loop-less c = omega arith
-
 loop-again : tie.Need-loop-again Inv-loop μ-loop
 loop-again c = (
   turn _ _ _ (c .before .loop .inv .0),
@@ -45,5 +39,4 @@ returns c =
     (c .before .loop .inv .0 ∙ ap (whole (c .before .before .args .t)) all, c .before .loop .inv .1)
 
 pub whole-of-spec : {M : Type 1} → statement M
-whole-of-spec =
-    tie.close (tie.spec Inv-loop μ-loop loop-holds mul-x add-counter loop-less loop-again returns)
+whole-of-spec = tie.close (tie.spec Inv-loop μ-loop loop-holds mul-x (λ c. omega arith) (λ c. omega arith) loop-again returns)

@@ -59,6 +59,4 @@ returns c =
     (e, omega (arith, e, store-within (c .pre .0) (c .pre .1) (c .args .v) (c .args .i)))
 
 pub outflow-of-spec : {M : Type 1} → statement M
-outflow-of-spec =
-    tie.close
-    (tie.spec mul-low-i mul-low-v mul-result mul-result-2 add-result add-result-2 add-result-3 returns)
+outflow-of-spec = tie.close (tie.spec mul-low-i mul-low-v mul-result mul-result-2 add-result add-result-2 add-result-3 returns)

@@ -8,6 +8,6 @@ use Rattle.curve_cases.proofs.every.folded.Tie as tie
 
 pub folded-spec : {M : Type 1} → statement M
 folded-spec =
-    tie.close (tie.spec (λ call e h₀ t₀ h t. t ≤ 65538)
-    (λ call e h₀ t₀ h t. 65538 - t)
-    (λ c. omega arith) (λ c κs. search needs) (λ c. omega arith) (λ c. omega arith) (λ c. omega arith) (λ c. omega arith))
+    tie.close
+    (tie.spec (λ call e h₀ t₀ h t. t ≤ 65538) (λ call e h₀ t₀ h t. 65538 - t) (λ c. omega arith) (λ c κs. search needs) (λ c. omega arith)
+    (λ c. omega arith) (λ c. omega arith) (λ c. omega arith))

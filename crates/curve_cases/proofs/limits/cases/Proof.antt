@@ -8,7 +8,6 @@ use Rattle.curve_cases.proofs.limits.cases.Tie as tie
 
 pub cases-spec : {M : Type 1} → statement M
 cases-spec =
-    tie.close (tie.spec (λ call count i₀ i. i ≤ count)
-    (λ call count i₀ i. count - i)
-    (λ c. omega arith) (λ c κs. search needs) (λ c κs. search needs) (λ c. omega arith) (λ c. omega arith) (λ c. omega arith)
-    (λ c. omega arith))
+    tie.close
+    (tie.spec (λ call count i₀ i. i ≤ count) (λ call count i₀ i. count - i) (λ c. omega arith) (λ c κs. search needs) (λ c κs. search needs)
+    (λ c. omega arith) (λ c. omega arith) (λ c. omega arith) (λ c. omega arith))

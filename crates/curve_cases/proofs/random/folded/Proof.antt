@@ -8,6 +8,6 @@ use Rattle.curve_cases.proofs.random.folded.Tie as tie
 
 pub folded-spec : {M : Type 1} → statement M
 folded-spec =
-    tie.close (tie.spec (λ call s₀ i₀ s i. i ≤ 100000)
-    (λ call s₀ i₀ s i. 100000 - i)
-    (λ c. omega arith) (λ c κs. search needs) (λ c. omega arith) (λ c. omega arith) (λ c. omega arith) (λ c. omega arith))
+    tie.close
+    (tie.spec (λ call s₀ i₀ s i. i ≤ 100000) (λ call s₀ i₀ s i. 100000 - i) (λ c. omega arith) (λ c κs. search needs) (λ c. omega arith)
+    (λ c. omega arith) (λ c. omega arith) (λ c. omega arith))

@@ -8,6 +8,6 @@ use Rattle.file_cases.proofs.series.loads.Tie as tie
 
 pub loads-spec : {M : Type 1} → statement M
 loads-spec =
-    tie.close (tie.spec (λ part choice count s₀ i₀ s i. i ≤ count)
-    (λ part choice count s₀ i₀ s i. count - i)
-    (λ c. omega arith) (λ c κs. search needs) (λ c. omega arith) (λ c. omega arith) (λ c. omega arith) (λ c. omega arith))
+    tie.close
+    (tie.spec (λ part choice count s₀ i₀ s i. i ≤ count) (λ part choice count s₀ i₀ s i. count - i) (λ c. omega arith)
+    (λ c κs. search needs) (λ c. omega arith) (λ c. omega arith) (λ c. omega arith) (λ c. omega arith))

@@ -13,17 +13,11 @@ use Rattle.forcing.proofs.depth.judge.Tie as tie
 held : (c : tie.Start) → T (fits binary32 (c .args .x))
 held c = subst T (sym (c .good .0 .1)) tt
 
-answer-of-requires : tie.Need-answer-of-requires
-answer-of-requires c κs = tt
-
 returns : tie.Need-returns
 returns c = c .answer-of .ensures ∙ nan-answer (c .before .before .args .x) (c .before .before .args .limit) (c .before .if1 .taken)
 
 float-to-bits-wide : tie.Need-float-to-bits-wide
 float-to-bits-wide c = no-nan (c .before .args .x) (c .if1 .left)
-
-wide-requires : tie.Need-wide-requires
-wide-requires c κs = tt
 
 judge-bits-requires : tie.Need-judge-bits-requires
 judge-bits-requires c κs = omega (arith, toBits-lt binary32 (c .before .before .args .x) (held (c .before .before)))
@@ -35,12 +29,4 @@ returns-2 c =
     ∙ ap (ofNumber (start .args .limit)) (ap (ofBits binary32) (c .before .wide .ensures) ∙ ofBits-toBits binary32 (start .args .x) (held start))
 
 pub judge-spec : {M : Type 1} → statement M
-judge-spec =
-    tie.close
-    (tie.spec
-    answer-of-requires
-    returns
-    float-to-bits-wide
-    wide-requires
-    judge-bits-requires
-    returns-2)
+judge-spec = tie.close (tie.spec (λ c κs. tt) returns float-to-bits-wide (λ c κs. tt) judge-bits-requires returns-2)

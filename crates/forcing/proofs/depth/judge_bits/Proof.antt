@@ -7,24 +7,15 @@ use Rattle.forcing.proofs.depth.ValueLaws.{infinite-bits, minus-zero-bi
 use Rattle.forcing.proofs.depth.judge_bits.Statement.{statement}
 use Rattle.forcing.proofs.depth.judge_bits.Tie as tie
 
-answer-of-requires : tie.Need-answer-of-requires
-answer-of-requires c κs = tt
-
 returns : tie.Need-returns
 returns c =
     let start = c .before .before in
     c .answer-of .ensures ∙ infinite-bits (start .args .bits) (start .args .limit) (start .pre .0) (c .before .if1 .taken)
 
-answer-of-requires-2 : tie.Need-answer-of-requires-2
-answer-of-requires-2 c κs = tt
-
 returns-2 : tie.Need-returns-2
 returns-2 c =
     let start = c .before .before .before in
     c .answer-of2 .ensures ∙ minus-zero-bits (start .args .bits) (start .args .limit) (start .pre .0) (c .before .if2 .taken)
-
-answer-of-requires-3 : tie.Need-answer-of-requires-3
-answer-of-requires-3 c κs = tt
 
 returns-3 : tie.Need-returns-3
 returns-3 c =
@@ -44,9 +35,6 @@ returns-4 c =
     c .scaled .ensures
     ∙ subnormal-bits (start .args .bits) (start .args .limit) (start .pre .0) (finite .if1 .left) (plus .if3 .left) (c .before .if4 .taken)
 
-answer-of-requires-4 : tie.Need-answer-of-requires-4
-answer-of-requires-4 c κs = tt
-
 returns-5 : tie.Need-returns-5
 returns-5 c =
     let plus = c .before .before .before in
@@ -57,9 +45,6 @@ returns-5 c =
 
 add-scaled : tie.Need-add-scaled
 add-scaled c = omega (arith, mask-lt (c .before .before .before .before .before .args .bits) 23)
-
-sub-scaled : tie.Need-sub-scaled
-sub-scaled c = omega arith
 
 scaled-requires-2 : tie.Need-scaled-requires-2
 scaled-requires-2 c κs = omega (arith, mask-lt (c .before .before .before .before .before .args .bits) 23)
@@ -75,18 +60,5 @@ returns-6 c =
 pub judge-bits-spec : {M : Type 1} → statement M
 judge-bits-spec =
     tie.close
-    (tie.spec
-    answer-of-requires
-    returns
-    answer-of-requires-2
-    returns-2
-    answer-of-requires-3
-    returns-3
-    scaled-requires
-    returns-4
-    answer-of-requires-4
-    returns-5
-    add-scaled
-    sub-scaled
-    scaled-requires-2
-    returns-6)
+    (tie.spec (λ c κs. tt) returns (λ c κs. tt) returns-2 (λ c κs. tt) returns-3 scaled-requires returns-4 (λ c κs. tt) returns-5 add-scaled
+    (λ c. omega arith) scaled-requires-2 returns-6)

@@ -8,20 +8,11 @@ use Rattle.forcing.proofs.depth.FractionLaws.{small-fraction, over-limi
 use Rattle.forcing.proofs.depth.scaled.Statement.{statement}
 use Rattle.forcing.proofs.depth.scaled.Tie as tie
 
-answer-of-requires : tie.Need-answer-of-requires
-answer-of-requires c κs = tt
-
 returns : tie.Need-returns
 returns c =
     let a = c .before .before .args in
     let p = c .before .before .pre in
     c .answer-of .ensures ∙ small-fraction (a .limit) (a .significand) (a .places) (c .before .if1 .taken) (p .digits) (p .some)
-
-shl-if2 : tie.Need-shl-if2
-shl-if2 c = omega arith
-
-answer-of-requires-2 : tie.Need-answer-of-requires-2
-answer-of-requires-2 c κs = tt
 
 returns-2 : tie.Need-returns-2
 returns-2 c =
@@ -30,25 +21,10 @@ returns-2 c =
     let e = limit-shift (a .limit) (a .places) (p .limited) (c .before .before .if1 .left) in
     c .answer-of2 .ensures ∙ over-limit (a .limit) (a .significand) (a .places) (rw e at (c .before .if2 .taken))
 
-mul-answer-of : tie.Need-mul-answer-of
-mul-answer-of c = omega arith
-
-sub-answer-of : tie.Need-sub-answer-of
-sub-answer-of c = omega arith
-
-shl-answer-of : tie.Need-shl-answer-of
-shl-answer-of c = omega arith
-
 add-answer-of : tie.Need-add-answer-of
 add-answer-of c =
     let p = c .before .before .args .places in
     omega (arith, half-shift p (c .before .if1 .left), half-le p (c .before .if1 .left))
-
-shr-answer-of : tie.Need-shr-answer-of
-shr-answer-of c = omega arith
-
-answer-of-requires-3 : tie.Need-answer-of-requires-3
-answer-of-requires-3 c κs = tt
 
 returns-3 : tie.Need-returns-3
 returns-3 c =
@@ -63,16 +39,5 @@ returns-3 c =
 pub scaled-spec : {M : Type 1} → statement M
 scaled-spec =
     tie.close
-    (tie.spec
-    answer-of-requires
-    returns
-    shl-if2
-    answer-of-requires-2
-    returns-2
-    mul-answer-of
-    sub-answer-of
-    shl-answer-of
-    add-answer-of
-    shr-answer-of
-    answer-of-requires-3
-    returns-3)
+    (tie.spec (λ c κs. tt) returns (λ c. omega arith) (λ c κs. tt) returns-2 (λ c. omega arith) (λ c. omega arith) (λ c. omega arith)
+    add-answer-of (λ c. omega arith) (λ c κs. tt) returns-3)

@@ -28,29 +28,8 @@ Inv-loop bytes n last lines₀ k₀ lines k = Filling (fileLine bytes) (replicat
 abbrev μ-loop : tie.MeasureT-loop
 μ-loop bytes n last lines₀ k₀ lines k = last - k
 
-least-requires : tie.Need-least-requires Inv-loop μ-loop
-least-requires c κs = tt
-
-line-of-requires : tie.Need-line-of-requires Inv-loop μ-loop
-line-of-requires c κs = tt
-
 loop-holds : tie.Need-loop-holds Inv-loop μ-loop
 loop-holds c = fill-table 32 (c .line-of .ensures)
-
-file-line-requires : tie.Need-file-line-requires Inv-loop μ-loop
-file-line-requires c κs = omega arith
-
-mul-lines : tie.Need-mul-lines Inv-loop μ-loop
-mul-lines c = omega arith
-
-array-set-from-lines : tie.Need-array-set-from-lines Inv-loop μ-loop
-array-set-from-lines c = omega arith
-
-add-k : tie.Need-add-k Inv-loop μ-loop
-add-k c = omega arith
-
-loop-less : tie.Need-loop-less Inv-loop μ-loop
-loop-less c = omega arith
 
 loop-again : tie.Need-loop-again Inv-loop μ-loop
 loop-again c = fill-turn (c .before .before .loop .inv) (c .before .loop-test .taken) (c .file-line .ensures)
@@ -65,16 +44,5 @@ returns c =
 pub lines-of-spec : {M : Type 1} → statement M
 lines-of-spec =
     tie.close
-    (tie.spec
-    Inv-loop
-    μ-loop
-    least-requires
-    line-of-requires
-    loop-holds
-    file-line-requires
-    mul-lines
-    array-set-from-lines
-    add-k
-    loop-less
-    loop-again
-    returns)
+    (tie.spec Inv-loop μ-loop (λ c κs. tt) (λ c κs. tt) loop-holds (λ c κs. omega arith) (λ c. omega arith) (λ c. omega arith)
+    (λ c. omega arith) (λ c. omega arith) loop-again returns)

@@ -24,8 +24,5 @@ returns c =
 float-from-bits-result : tie.Need-float-from-bits-result
 float-from-bits-result c = rw (nanBits-above binary32 (c .before .args .bits), le-ltb _ _ (c .if1 .left)) tt
 
-returns-2 : tie.Need-returns-2
-returns-2 c = search needs
-
 pub number-of-spec : {M : Type 1} → statement M
-number-of-spec = tie.close (tie.spec returns float-from-bits-result returns-2)
+number-of-spec = tie.close (tie.spec returns float-from-bits-result (λ c. search needs))

@@ -5,22 +5,10 @@ use Rattle.forcing.proofs.list.LineLaws.{rain-bad, pan-bad, line-good}
 use Rattle.forcing.proofs.list.judge_line.Statement.{statement}
 use Rattle.forcing.proofs.list.judge_line.Tie as tie
 
-judge-rain-requires : tie.Need-judge-rain-requires
-judge-rain-requires c κs = tt
-
-bad-line-requires : tie.Need-bad-line-requires
-bad-line-requires c κs = tt
-
 returns : tie.Need-returns
 returns c =
     let rain = c .before .before .before in
     c .bad-line .ensures ∙ rain-bad (rain .before .args .line) (rain .judge-rain .ensures) (c .before .if1 .taken)
-
-depth-of-requires : tie.Need-depth-of-requires
-depth-of-requires c κs = tt
-
-bad-line-requires-2 : tie.Need-bad-line-requires-2
-bad-line-requires-2 c κs = tt
 
 returns-2 : tie.Need-returns-2
 returns-2 c =
@@ -29,9 +17,6 @@ returns-2 c =
     c .bad-line2 .ensures
     ∙ pan-bad (rain .before .args .line) (rain .judge-rain .ensures) (pan .depth-of .ensures) (pan .before .if1 .left) (c .before .if2 .taken)
 
-mark-requires : tie.Need-mark-requires
-mark-requires c κs = tt
-
 returns-3 : tie.Need-returns-3
 returns-3 c =
     let pan = c .before .before .before in
@@ -39,14 +24,4 @@ returns-3 c =
     line-good (rain .before .args .line) (rain .judge-rain .ensures) (pan .depth-of .ensures) (pan .before .if1 .left) (c .before .if2 .left) (c .mark .ensures)
 
 pub judge-line-spec : {M : Type 1} → statement M
-judge-line-spec =
-    tie.close
-    (tie.spec
-    judge-rain-requires
-    bad-line-requires
-    returns
-    depth-of-requires
-    bad-line-requires-2
-    returns-2
-    mark-requires
-    returns-3)
+judge-line-spec = tie.close (tie.spec (λ c κs. tt) (λ c κs. tt) returns (λ c κs. tt) (λ c κs. tt) returns-2 (λ c κs. tt) returns-3)

@@ -5,24 +5,6 @@ use Rattle.forcing.specs.Depth.{answerBy, depthCall}
 use Rattle.forcing.proofs.list.judge_rain.Statement.{statement}
 use Rattle.forcing.proofs.list.judge_rain.Tie as tie
 
-enum-known-reading : tie.Need-enum-known-reading
-enum-known-reading c = search needs
-
-depth-of-requires : tie.Need-depth-of-requires
-depth-of-requires c κs = tt
-
-enum-known-reading-2 : tie.Need-enum-known-reading-2
-enum-known-reading-2 c = search needs
-
-depth-of-requires-2 : tie.Need-depth-of-requires-2
-depth-of-requires-2 c κs = tt
-
-enum-told : tie.Need-enum-told
-enum-told c = search needs
-
-missing-requires : tie.Need-missing-requires
-missing-requires c κs = tt
-
 returns : tie.Need-returns
 unfolding depthCall
 returns c = rw (c .before .before .reading .given .1) (c .depth-of .ensures)
@@ -38,13 +20,4 @@ returns-3 c = rw (c .before .enum-told .given .1) (c .missing .ensures)
 pub judge-rain-spec : {M : Type 1} → statement M
 judge-rain-spec =
     tie.close
-    (tie.spec
-    enum-known-reading
-    depth-of-requires
-    enum-known-reading-2
-    depth-of-requires-2
-    enum-told
-    missing-requires
-    returns
-    returns-2
-    returns-3)
+    (tie.spec (λ c. search needs) (λ c κs. tt) (λ c. search needs) (λ c κs. tt) (λ c. search needs) (λ c κs. tt) returns returns-2 returns-3)

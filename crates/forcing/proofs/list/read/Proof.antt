@@ -84,20 +84,11 @@ abbrev μ-loop : tie.MeasureT-loop
 lines-32 : (c : tie.Start Inv-loop μ-loop) → length (c .args .t1) ≡ 32
 lines-32 c = c .good .0 .1 .0 .1
 
-refuse-requires : tie.Need-refuse-requires Inv-loop μ-loop
-refuse-requires c κs = tt
-
 returns : tie.Need-returns Inv-loop μ-loop
 returns c = c .refuse .ensures ∙ miscounted (c .before .before .args .t1) (c .before .if1 .taken)
 
 loop-holds : tie.Need-loop-holds Inv-loop μ-loop
 loop-holds c = record { filling = fill-begin; seeking = seek-begin; adding = add-begin }
-
-add-refuse : tie.Need-add-refuse Inv-loop μ-loop
-add-refuse c = omega arith
-
-refuse-requires-2 : tie.Need-refuse-requires-2 Inv-loop μ-loop
-refuse-requires-2 c κs = tt
 
 returns-2 : tie.Need-returns-2 Inv-loop μ-loop
 returns-2 c =
@@ -105,21 +96,6 @@ returns-2 c =
     let counted = turning .before .before in
     c .refuse2 .ensures
     ∙ missing (turning .before .loop .inv) (counted .if1 .left) (lines-32 (counted .before)) (turning .loop-test .taken) (c .before .if2 .taken)
-
-mul-line : tie.Need-mul-line Inv-loop μ-loop
-mul-line c = omega arith
-
-array-copy-out-line : tie.Need-array-copy-out-line Inv-loop μ-loop
-array-copy-out-line c = omega arith
-
-judge-line-requires : tie.Need-judge-line-requires Inv-loop μ-loop
-judge-line-requires c κs = tt
-
-add-refuse-2 : tie.Need-add-refuse-2 Inv-loop μ-loop
-add-refuse-2 c = omega arith
-
-refuse-requires-3 : tie.Need-refuse-requires-3 Inv-loop μ-loop
-refuse-requires-3 c κs = tt
 
 returns-3 : tie.Need-returns-3 Inv-loop μ-loop
 returns-3 c =
@@ -130,12 +106,6 @@ returns-3 c =
     c .refuse3 .ensures
     ∙ found (turning .before .loop .inv) (counted .if1 .left) (lines-32 (counted .before)) (turning .loop-test .taken) (within .if2 .left) _
     (judged .judge-line .ensures) (c .before .if3 .taken)
-
-mul-weather : tie.Need-mul-weather Inv-loop μ-loop
-mul-weather c = omega arith
-
-array-set-from-weather : tie.Need-array-set-from-weather Inv-loop μ-loop
-array-set-from-weather c = omega arith
 
 loop-again : tie.Need-loop-again Inv-loop μ-loop
 loop-again c =
@@ -150,37 +120,12 @@ loop-again c =
 add-estimated : tie.Need-add-estimated Inv-loop μ-loop
 add-estimated c = omega (arith, few (loop-again c))
 
-add-at : tie.Need-add-at Inv-loop μ-loop
-add-at c = omega arith
-
-loop-less : tie.Need-loop-less Inv-loop μ-loop
-loop-less c = omega arith
-
 returns-4 : tie.Need-returns-4 Inv-loop μ-loop
 returns-4 c = ended (c .before .loop .inv) (c .before .before .if1 .left) (c .loop-test .left)
 
 pub read-spec : {M : Type 1} → statement M
 read-spec =
     tie.close
-    (tie.spec
-    Inv-loop
-    μ-loop
-    refuse-requires
-    returns
-    loop-holds
-    add-refuse
-    refuse-requires-2
-    returns-2
-    mul-line
-    array-copy-out-line
-    judge-line-requires
-    add-refuse-2
-    refuse-requires-3
-    returns-3
-    mul-weather
-    array-set-from-weather
-    add-estimated
-    add-at
-    loop-less
-    loop-again
-    returns-4)
+    (tie.spec Inv-loop μ-loop (λ c κs. tt) returns loop-holds (λ c. omega arith) (λ c κs. tt) returns-2 (λ c. omega arith)
+    (λ c. omega arith) (λ c κs. tt) (λ c. omega arith) (λ c κs. tt) returns-3 (λ c. omega arith) (λ c. omega arith) add-estimated
+    (λ c. omega arith) (λ c. omega arith) loop-again returns-4)

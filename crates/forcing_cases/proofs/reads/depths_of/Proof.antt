@@ -7,7 +7,7 @@ use Rattle.forcing_cases.proofs.reads.depths_of.Tie as tie
 
 pub depths-of-spec : {M : Type 1} → statement M
 depths-of-spec =
-    tie.close (tie.spec (λ weather depths₀ i₀ depths i. i ≤ 32)
-    (λ weather depths₀ i₀ depths i. 32 - i)
-    (λ c. omega arith) (λ c. omega arith) (λ c. omega arith) (λ c. omega arith) (λ c. omega arith) (λ c. omega arith)
-    (λ c. omega arith) (λ c. omega arith) (λ c. omega arith) (λ c. omega arith) (λ c. omega arith) (λ c. omega arith))
+    tie.close
+    (tie.spec (λ weather depths₀ i₀ depths i. i ≤ 32) (λ weather depths₀ i₀ depths i. 32 - i) (λ c. omega arith) (λ c. omega arith)
+    (λ c. omega arith) (λ c. omega arith) (λ c. omega arith) (λ c. omega arith) (λ c. omega arith) (λ c. omega arith) (λ c. omega arith)
+    (λ c. omega arith) (λ c. omega arith) (λ c. omega arith))

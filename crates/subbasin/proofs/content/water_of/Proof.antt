@@ -1,6 +1,6 @@
 -- `subbasin::content::water_of` meets its contract: a sum of sums that stop at 2^64 − 1 stops there too. Assumes nothing.
 use mathlib.Core.Path.{_≡_, ap, _∙_}
-use Prim.Native.Nat.{ℕ, zero, suc, _+_, _-_, _*_, _^_, _≤_, _<_}
+use Prim.Native.Nat.{ℕ, zero, suc, _+_, _-_, _*_, _^_, _≤_}
 use native.Mathlib.Decide.{decLe}
 use native.Mathlib.Nat.{mul-le-mul-right}
 use native.Mathlib.Omega.{arith}
@@ -32,24 +32,6 @@ whole s ed es ew eb ec ea =
     let waits : ℕ = sum (s .line .waiting) in
     add-capped (soil + waits) (s .channel) (add-capped soil waits (times-capped (s .fixed .area) (waterDepth (s .contents)) ed es) ew eb) ec ea
 
-water-depth-requires : tie.Need-water-depth-requires
-water-depth-requires c κs = search needs
-
-times-requires : tie.Need-times-requires
-times-requires c κs = search needs
-
-slice-aggregate-total : tie.Need-slice-aggregate-total
-slice-aggregate-total c = search needs
-
-total-requires : tie.Need-total-requires
-total-requires c κs = search needs
-
-add-requires : tie.Need-add-requires
-add-requires c κs = search needs
-
-add-requires-2 : tie.Need-add-requires-2
-add-requires-2 c κs = search needs
-
 returns : tie.Need-returns
 returns c =
     whole _ (c .before .before .before .before .before .water-depth .ensures) (c .before .before .before .before .times .ensures) (c .before .before .total .ensures)
@@ -58,4 +40,5 @@ returns c =
 pub water-of-spec : {M : Type 1} → statement M
 water-of-spec =
     tie.close
-    (tie.spec water-depth-requires times-requires slice-aggregate-total total-requires add-requires add-requires-2 returns)
+    (tie.spec (λ c κs. search needs) (λ c κs. search needs) (λ c. search needs) (λ c κs. search needs) (λ c κs. search needs)
+    (λ c κs. search needs) returns)

@@ -31,9 +31,6 @@ parts-of : (p : Parameters) (g pe r : ℕ) {kept : ℕ} → kept ≡ keep p g pe
 unfolding parted
 parts-of p g pe r e = rw e
 
-keep-of-requires : tie.Need-keep-of-requires
-keep-of-requires c κs = search needs
-
 mul-ri : tie.Need-mul-ri
 mul-ri c = omega (arith, ki-fits _ _ _ _ (c .before .before .pre .0) (c .before .before .pre .1) (c .before .before .pre .2) (c .before .keep-of .ensures))
 
@@ -56,5 +53,4 @@ returns : tie.Need-returns
 returns c = parts-of _ _ _ _ (c .before .before .keep-of .ensures)
 
 pub drain-spec : {M : Type 1} → statement M
-drain-spec =
-    tie.close (tie.spec keep-of-requires mul-ri mul-rg add-t8 sub-t9 sub-t10 sub-t11 returns)
+drain-spec = tie.close (tie.spec (λ c κs. search needs) mul-ri mul-rg add-t8 sub-t9 sub-t10 sub-t11 returns)

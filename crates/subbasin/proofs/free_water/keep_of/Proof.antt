@@ -38,12 +38,6 @@ returns c = none-new _ _ _ _ (c .if1 .taken)
 mul-least : tie.Need-mul-least
 mul-least c = omega (arith, mul-le-mul (le-trans (c .before .pre .1) (c .before .pre .0 .sm-most)) (c .before .pre .3))
 
-div-least : tie.Need-div-least
-div-least c = search needs
-
-least-requires : tie.Need-least-requires
-least-requires c κs = search needs
-
 mul-raise : tie.Need-mul-raise
 mul-raise c = omega (arith, mul-le-mul (c .before .before .before .pre .0 .sm-most) (c .before .before .before .pre .0 .xn-most))
 
@@ -52,17 +46,8 @@ raise-requires c κs =
     let at = c .before .before .before in
     (s-curve _ (at .pre .0), omega (arith, c .before .least .ensures), omega (arith, at .pre .3))
 
-add-least : tie.Need-add-least
-add-least c = search needs
-
 mul-least-2 : tie.Need-mul-least-2
 mul-least-2 c = omega (arith, mul-le-mul (s2-le _ _ _ _ _ (c .before .before .before .before .pre .0 .sm-most) (c .raise .ensures)) (le-trans (c .before .before .before .before .pre .2) (c .before .before .before .before .pre .3)))
-
-div-least-2 : tie.Need-div-least-2
-div-least-2 c = search needs
-
-least-requires-2 : tie.Need-least-requires-2
-least-requires-2 c κs = search needs
 
 returns-2 : tie.Need-returns-2
 returns-2 c = some-new _ _ _ _ (c .before .before .before .before .if1 .left) (c .before .before .before .least .ensures) (c .before .raise .ensures) (c .least2 .ensures)
@@ -70,15 +55,5 @@ returns-2 c = some-new _ _ _ _ (c .before .before .before .before .if1 .left) (c
 pub keep-of-spec : {M : Type 1} → statement M
 keep-of-spec =
     tie.close
-    (tie.spec
-    returns
-    mul-least
-    div-least
-    least-requires
-    mul-raise
-    raise-requires
-    add-least
-    mul-least-2
-    div-least-2
-    least-requires-2
-    returns-2)
+    (tie.spec returns mul-least (λ c. search needs) (λ c κs. search needs) mul-raise raise-requires (λ c. search needs) mul-least-2
+    (λ c. search needs) (λ c κs. search needs) returns-2)

@@ -18,18 +18,6 @@ module _ (line : LagLine) {b : Bool} (t : b ≡ allUpTo mostWaiting (line .waiti
   unfolding lineIn
   high n = sym (rw (sym t ∙ n))
 
-slice-aggregate-up-to : tie.Need-slice-aggregate-up-to
-slice-aggregate-up-to c = search needs
-
-up-to-requires : tie.Need-up-to-requires
-up-to-requires c κs = search needs
-
-slice-aggregate-up-to-2 : tie.Need-slice-aggregate-up-to-2
-slice-aggregate-up-to-2 c = search needs
-
-up-to-requires-2 : tie.Need-up-to-requires-2
-up-to-requires-2 c κs = search needs
-
 returns : tie.Need-returns
 returns c = c .up-to2 .ensures ∙ low _ (c .before .before .before .up-to .ensures) (c .before .before .if1 .taken)
 
@@ -37,5 +25,4 @@ returns-2 : tie.Need-returns-2
 returns-2 c = high _ (c .before .up-to .ensures) (c .if1 .left)
 
 pub allowed-spec : {M : Type 1} → statement M
-allowed-spec =
-    tie.close (tie.spec slice-aggregate-up-to up-to-requires slice-aggregate-up-to-2 up-to-requires-2 returns returns-2)
+allowed-spec = tie.close (tie.spec (λ c. search needs) (λ c κs. search needs) (λ c. search needs) (λ c κs. search needs) returns returns-2)

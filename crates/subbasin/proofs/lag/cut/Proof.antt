@@ -61,18 +61,6 @@ abbrev μ-loop : tie.MeasureT-loop
 loop-holds : tie.Need-loop-holds Inv-loop μ-loop
 loop-holds c = (search, cut-begin _ _ (search) (c .pre))
 
-mul-next : tie.Need-mul-next Inv-loop μ-loop
-mul-next c = omega arith
-
-array-write-next : tie.Need-array-write-next Inv-loop μ-loop
-array-write-next c = omega arith
-
-add-i : tie.Need-add-i Inv-loop μ-loop
-add-i c = omega arith
-
-loop-less : tie.Need-loop-less Inv-loop μ-loop
-loop-less c = omega arith
-
 loop-again : tie.Need-loop-again Inv-loop μ-loop
 loop-again c = (c .before .loop .inv .0, cut-turn _ _ _ _ (c .before .loop .inv .0) (c .before .loop .inv .1) (c .loop-test .taken))
 
@@ -81,14 +69,4 @@ returns c = cut-end _ _ _ _ (c .before .loop .inv .0) (c .before .before .pre) (
 
 pub cut-spec : {M : Type 1} → statement M
 cut-spec =
-    tie.close
-    (tie.spec
-    Inv-loop
-    μ-loop
-    loop-holds
-    mul-next
-    array-write-next
-    add-i
-    loop-less
-    loop-again
-    returns)
+    tie.close (tie.spec Inv-loop μ-loop loop-holds (λ c. omega arith) (λ c. omega arith) (λ c. omega arith) (λ c. omega arith) loop-again returns)

@@ -12,12 +12,9 @@ made : (line : LagLine) (t : ℕ) {waits : List ℕ} → waits ≡ waitingAfter 
 unfolding entered
 made line t e = rw e
 
-shift-requires : tie.Need-shift-requires
-shift-requires c κs = search needs
-
 returns : tie.Need-returns
 unfolding waitingAfter
 returns c = made _ _ (c .shift .ensures)
 
 pub enter-spec : {M : Type 1} → statement M
-enter-spec = tie.close (tie.spec shift-requires returns)
+enter-spec = tie.close (tie.spec (λ c κs. search needs) returns)

@@ -25,17 +25,8 @@ in-turn line t n = later (line .waiting) t (line .lag) n
 returns : tie.Need-returns
 returns c = at-once _ _ (c .if1 .taken)
 
-sub-at : tie.Need-sub-at
-sub-at c = search needs
-
-mul-result : tie.Need-mul-result
-mul-result c = search needs
-
-array-read-result : tie.Need-array-read-result
-array-read-result c = search needs
-
 returns-2 : tie.Need-returns-2
 returns-2 c = in-turn _ _ (c .if1 .left)
 
 pub leave-spec : {M : Type 1} → statement M
-leave-spec = tie.close (tie.spec returns sub-at mul-result array-read-result returns-2)
+leave-spec = tie.close (tie.spec returns (λ c. search needs) (λ c. search needs) (λ c. search needs) returns-2)

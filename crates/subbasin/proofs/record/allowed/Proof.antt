@@ -6,20 +6,14 @@ use Rattle.subbasin.proofs.record.RecordLaws.{words-fail, channel-fails
 use Rattle.subbasin.proofs.record.allowed.Statement.{statement}
 use Rattle.subbasin.proofs.record.allowed.Tie as tie
 
-first-outside-requires : tie.Need-first-outside-requires
-first-outside-requires c κs = search needs
-
 returns : tie.Need-returns
 returns c = words-fail _ _ (c .before .first-outside .ensures) (c .if1 .taken)
 
 returns-2 : tie.Need-returns-2
 returns-2 c = channel-fails _ _ (c .if2 .taken)
 
-allowed-requires : tie.Need-allowed-requires
-allowed-requires c κs = search needs
-
 returns-3 : tie.Need-returns-3
 returns-3 c = c .allowed .ensures ∙ only-line _ _ (c .before .before .before .before .before .first-outside .ensures) (omega arith) (omega arith)
 
 pub allowed-spec : {M : Type 1} → statement M
-allowed-spec = tie.close (tie.spec first-outside-requires returns returns-2 allowed-requires returns-3)
+allowed-spec = tie.close (tie.spec (λ c κs. search needs) returns returns-2 (λ c κs. search needs) returns-3)

@@ -15,11 +15,8 @@ counted : (m v : ℕ) (s : SubBasin) {n : ℕ} → n ≡ leading 0 0 (words m v 
 unfolding firstOutside
 counted m v s e = e ∙ leading-first 0 (words m v s) ∙ zero-add (firstOut (words m v s))
 
-inside-requires : tie.Need-inside-requires
-inside-requires c κs = search needs
-
 returns : tie.Need-returns
 returns c = counted _ _ _ (c .inside .ensures)
 
 pub first-outside-spec : {M : Type 1} → statement M
-first-outside-spec = tie.close (tie.spec inside-requires returns)
+first-outside-spec = tie.close (tie.spec (λ c κs. search needs) returns)

@@ -8,78 +8,6 @@ use Rattle.subbasin.specs.Workers.{further, leading}
 use Rattle.subbasin.proofs.record.inside.Statement.{statement}
 use Rattle.subbasin.proofs.record.inside.Tie as tie
 
-next-requires : tie.Need-next-requires
-next-requires c κs = search needs
-
-next-requires-2 : tie.Need-next-requires-2
-next-requires-2 c κs = search needs
-
-next-requires-3 : tie.Need-next-requires-3
-next-requires-3 c κs = search needs
-
-next-requires-4 : tie.Need-next-requires-4
-next-requires-4 c κs = search needs
-
-next-requires-5 : tie.Need-next-requires-5
-next-requires-5 c κs = search needs
-
-next-requires-6 : tie.Need-next-requires-6
-next-requires-6 c κs = search needs
-
-next-requires-7 : tie.Need-next-requires-7
-next-requires-7 c κs = search needs
-
-next-requires-8 : tie.Need-next-requires-8
-next-requires-8 c κs = search needs
-
-next-requires-9 : tie.Need-next-requires-9
-next-requires-9 c κs = search needs
-
-next-requires-10 : tie.Need-next-requires-10
-next-requires-10 c κs = search needs
-
-next-requires-11 : tie.Need-next-requires-11
-next-requires-11 c κs = search needs
-
-rest-requires : tie.Need-rest-requires
-rest-requires c κs = search needs
-
-next-requires-12 : tie.Need-next-requires-12
-next-requires-12 c κs = search needs
-
-next-requires-13 : tie.Need-next-requires-13
-next-requires-13 c κs = search needs
-
-next-requires-14 : tie.Need-next-requires-14
-next-requires-14 c κs = search needs
-
-next-requires-15 : tie.Need-next-requires-15
-next-requires-15 c κs = search needs
-
-next-requires-16 : tie.Need-next-requires-16
-next-requires-16 c κs = search needs
-
-next-requires-17 : tie.Need-next-requires-17
-next-requires-17 c κs = search needs
-
-next-requires-18 : tie.Need-next-requires-18
-next-requires-18 c κs = search needs
-
-next-requires-19 : tie.Need-next-requires-19
-next-requires-19 c κs = search needs
-
-next-requires-20 : tie.Need-next-requires-20
-next-requires-20 c κs = search needs
-
-next-requires-21 : tie.Need-next-requires-21
-next-requires-21 c κs = search needs
-
-next-requires-22 : tie.Need-next-requires-22
-next-requires-22 c κs = search needs
-
-next-requires-23 : tie.Need-next-requires-23
-next-requires-23 c κs = search needs
-
 returns : tie.Need-returns
 returns c =
     let c1 = c .before in
@@ -134,29 +62,8 @@ returns c =
 pub inside-spec : {M : Type 1} → statement M
 inside-spec =
     tie.close
-    (tie.spec
-    next-requires
-    next-requires-2
-    next-requires-3
-    next-requires-4
-    next-requires-5
-    next-requires-6
-    next-requires-7
-    next-requires-8
-    next-requires-9
-    next-requires-10
-    next-requires-11
-    rest-requires
-    next-requires-12
-    next-requires-13
-    next-requires-14
-    next-requires-15
-    next-requires-16
-    next-requires-17
-    next-requires-18
-    next-requires-19
-    next-requires-20
-    next-requires-21
-    next-requires-22
-    next-requires-23
-    returns)
+    (tie.spec (λ c κs. search needs) (λ c κs. search needs) (λ c κs. search needs) (λ c κs. search needs) (λ c κs. search needs)
+    (λ c κs. search needs) (λ c κs. search needs) (λ c κs. search needs) (λ c κs. search needs) (λ c κs. search needs)
+    (λ c κs. search needs) (λ c κs. search needs) (λ c κs. search needs) (λ c κs. search needs) (λ c κs. search needs)
+    (λ c κs. search needs) (λ c κs. search needs) (λ c κs. search needs) (λ c κs. search needs) (λ c κs. search needs)
+    (λ c κs. search needs) (λ c κs. search needs) (λ c κs. search needs) (λ c κs. search needs) returns)

@@ -5,21 +5,6 @@ use Rattle.subbasin.proofs.record.RecordLaws.{some-waits, some-channel,
 use Rattle.subbasin.proofs.record.is_blank.Statement.{statement}
 use Rattle.subbasin.proofs.record.is_blank.Tie as tie
 
-slice-aggregate-up-to : tie.Need-slice-aggregate-up-to
-slice-aggregate-up-to c = search needs
-
-up-to-requires : tie.Need-up-to-requires
-up-to-requires c κs = search needs
-
-words-of-requires : tie.Need-words-of-requires
-words-of-requires c κs = search needs
-
-slice-aggregate-up-to-2 : tie.Need-slice-aggregate-up-to-2
-slice-aggregate-up-to-2 c = search needs
-
-up-to-requires-2 : tie.Need-up-to-requires-2
-up-to-requires-2 c κs = search needs
-
 returns : tie.Need-returns
 returns c =
     let worded = c .before .before in
@@ -37,12 +22,5 @@ returns-3 c = some-waits _ (c .before .up-to .ensures) (c .if1 .left)
 pub is-blank-spec : {M : Type 1} → statement M
 is-blank-spec =
     tie.close
-    (tie.spec
-    slice-aggregate-up-to
-    up-to-requires
-    words-of-requires
-    slice-aggregate-up-to-2
-    up-to-requires-2
-    returns
-    returns-2
+    (tie.spec (λ c. search needs) (λ c κs. search needs) (λ c κs. search needs) (λ c. search needs) (λ c κs. search needs) returns returns-2
     returns-3)

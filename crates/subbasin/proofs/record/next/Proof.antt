@@ -5,9 +5,6 @@ use Rattle.subbasin.proofs.record.RecordLaws.{further-more, further-not
 use Rattle.subbasin.proofs.record.next.Statement.{statement}
 use Rattle.subbasin.proofs.record.next.Tie as tie
 
-add-result : tie.Need-add-result
-add-result c = search needs
-
 returns : tie.Need-returns
 returns c = further-more _ _ _ _ _ (omega arith) (omega arith) (omega arith)
 
@@ -21,4 +18,4 @@ returns-4 : tie.Need-returns-4
 returns-4 c = further-not _ _ _ _ _ (λ e l h. omega arith)
 
 pub next-spec : {M : Type 1} → statement M
-next-spec = tie.close (tie.spec add-result returns returns-2 returns-3 returns-4)
+next-spec = tie.close (tie.spec (λ c. search needs) returns returns-2 returns-3 returns-4)

@@ -26,22 +26,10 @@ module _ (p : Parameters) (w : Layers) (rain u d : ℕ) {r : Evaporated} where
 mul-if1 : tie.Need-mul-if1
 mul-if1 c = omega (arith, mul-le-mul (c .before .pre .0 .c-most) (c .before .pre .0 .lm-most))
 
-mul-if1-2 : tie.Need-mul-if1-2
-mul-if1-2 c = search needs
-
 mul-least : tie.Need-mul-least
 mul-least c =
     let pre = c .before .before .before .before .pre in
     omega (arith, mul-le-mul (pre .2) (le-trans (pre .1 .wl-most) (pre .0 .lm-most)))
-
-div-least : tie.Need-div-least
-div-least c = search needs
-
-least-requires : tie.Need-least-requires
-least-requires c κs = search needs
-
-fall-requires : tie.Need-fall-requires
-fall-requires c κs = search needs
 
 returns : tie.Need-returns
 returns c = lower _ _ _ _ _ (c .before .before .before .before .if1 .taken) (c .before .least .ensures) (c .fall .ensures)
@@ -51,35 +39,11 @@ mul-q c =
     let pre = c .before .before .before .before .pre in
     omega (arith, mul-le-mul (pre .0 .c-most) (pre .2))
 
-least-requires-2 : tie.Need-least-requires-2
-least-requires-2 c κs = search needs
-
-sub-least : tie.Need-sub-least
-sub-least c = search needs
-
-least-requires-3 : tie.Need-least-requires-3
-least-requires-3 c κs = search needs
-
-fall-requires-2 : tie.Need-fall-requires-2
-fall-requires-2 c κs = search needs
-
 returns-2 : tie.Need-returns-2
 returns-2 c = both _ _ _ _ _ (c .before .before .before .before .if1 .left) (c .before .before .least2 .ensures) (c .before .least3 .ensures) (c .fall2 .ensures)
 
 pub draw-deeper-spec : {M : Type 1} → statement M
 draw-deeper-spec =
     tie.close
-    (tie.spec
-    mul-if1
-    mul-if1-2
-    mul-least
-    div-least
-    least-requires
-    fall-requires
-    returns
-    mul-q
-    least-requires-2
-    sub-least
-    least-requires-3
-    fall-requires-2
-    returns-2)
+    (tie.spec mul-if1 (λ c. search needs) mul-least (λ c. search needs) (λ c κs. search needs) (λ c κs. search needs) returns mul-q
+    (λ c κs. search needs) (λ c. search needs) (λ c κs. search needs) (λ c κs. search needs) returns-2)

@@ -19,22 +19,8 @@ returns : tie.Need-returns
 unfolding evaporated
 returns c = rw (le-leb _ _ (c .if1 .taken))
 
-sub-short : tie.Need-sub-short
-sub-short c = search needs
-
-least-requires : tie.Need-least-requires
-least-requires c κs = search needs
-
-sub-draw-deeper : tie.Need-sub-draw-deeper
-sub-draw-deeper c = search needs
-
-draw-deeper-requires : tie.Need-draw-deeper-requires
-draw-deeper-requires c κs = search needs
-
 returns-2 : tie.Need-returns-2
 returns-2 c = short _ _ _ _ (c .before .before .if1 .left) (c .before .least .ensures) (c .draw-deeper .ensures)
 
 pub evaporate-spec : {M : Type 1} → statement M
-evaporate-spec =
-    tie.close
-    (tie.spec returns sub-short least-requires sub-draw-deeper draw-deeper-requires returns-2)
+evaporate-spec = tie.close (tie.spec returns (λ c. search needs) (λ c κs. search needs) (λ c. search needs) (λ c κs. search needs) returns-2)

@@ -13,51 +13,11 @@ layered : (p : Parameters) (w : Layers) (gained : ℕ) {u l : ℕ} → u ≡ min
 unfolding filled
 layered p w gained e f = rw (f, e)
 
-sub-least : tie.Need-sub-least
-sub-least c = search needs
-
-least-requires : tie.Need-least-requires
-least-requires c κs = search needs
-
-sub-least-2 : tie.Need-sub-least-2
-sub-least-2 c = search needs
-
-sub-least-3 : tie.Need-sub-least-3
-sub-least-3 c = search needs
-
-least-requires-2 : tie.Need-least-requires-2
-least-requires-2 c κs = search needs
-
-add-t6 : tie.Need-add-t6
-add-t6 c = search needs
-
-add-t7 : tie.Need-add-t7
-add-t7 c = search needs
-
-sub-t8 : tie.Need-sub-t8
-sub-t8 c = search needs
-
-sub-t9 : tie.Need-sub-t9
-sub-t9 c = search needs
-
-add-t10 : tie.Need-add-t10
-add-t10 c = search needs
-
 returns : tie.Need-returns
 returns c = layered _ _ _ (c .before .before .before .before .before .before .least .ensures) (c .before .before .before .least2 .ensures)
 
 pub fill-spec : {M : Type 1} → statement M
 fill-spec =
     tie.close
-    (tie.spec
-    sub-least
-    least-requires
-    sub-least-2
-    sub-least-3
-    least-requires-2
-    add-t6
-    add-t7
-    sub-t8
-    sub-t9
-    add-t10
-    returns)
+    (tie.spec (λ c. search needs) (λ c κs. search needs) (λ c. search needs) (λ c. search needs) (λ c κs. search needs) (λ c. search needs)
+    (λ c. search needs) (λ c. search needs) (λ c. search needs) (λ c. search needs) returns)

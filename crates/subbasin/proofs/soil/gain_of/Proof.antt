@@ -1,8 +1,7 @@
 -- `subbasin::soil::gain_of` meets its contract: the curve never sinks. Assumes nothing.
-use mathlib.Core.Path.{_≡_, ap, _∙_}
+use mathlib.Core.Path.{_≡_, _∙_}
 use mathlib.Core.Bool.{true}
 use Prim.Native.Nat.{ℕ, _-_, _≤_, _<_, min}
-use native.Mathlib.Omega.{arith}
 use borrow.Author.Needs.{needs}
 use Rattle.curve.specs.Capacity.{curveIn, rise}
 use Rattle.curve.proofs.capacity.CallLaws.{curve-in}
@@ -25,15 +24,6 @@ module _ (p : Parameters) (soil : SoilIn p) {m : ℕ} (most : m ≡ mm p) where
     unfolding gain
     gains x h = h ∙ rw (e, most)
 
-add-c : tie.Need-add-c
-add-c c = search needs
-
-add-c-2 : tie.Need-add-c-2
-add-c-2 c = search needs
-
-most-point-requires : tie.Need-most-point-requires
-most-point-requires c κs = search needs
-
 raise-requires : tie.Need-raise-requires
 raise-requires c κs =
     let pre = c .before .before .before .pre in
@@ -44,9 +34,6 @@ sub-least c =
     let pre = c .before .before .before .before .pre in
     rises _ (pre .0) (c .before .most-point .ensures) _ _ (c .raise .ensures) (pre .1) (pre .2)
 
-least-requires : tie.Need-least-requires
-least-requires c κs = search needs
-
 returns : tie.Need-returns
 returns c =
     let pre = c .before .before .before .before .before .pre in
@@ -54,5 +41,4 @@ returns c =
 
 pub gain-of-spec : {M : Type 1} → statement M
 gain-of-spec =
-    tie.close
-    (tie.spec add-c add-c-2 most-point-requires raise-requires sub-least least-requires returns)
+    tie.close (tie.spec (λ c. search needs) (λ c. search needs) (λ c κs. search needs) raise-requires sub-least (λ c κs. search needs) returns)

@@ -13,26 +13,11 @@ use Rattle.subbasin.proofs.soil.most_point.Tie as tie
 product-le : (p : Parameters) → SoilIn p → wm p * p .bn ≤ 500000 * 32
 product-le p h = mul-le-mul {n₁ = wm p} {m₁ = p .bn} {n₂ = 500000} {m₂ = 32} (omega arith) (h .bn-most)
 
-add-result : tie.Need-add-result
-add-result c = search needs
-
-add-result-2 : tie.Need-add-result-2
-add-result-2 c = search needs
-
 mul-result : tie.Need-mul-result
 mul-result c = omega (arith, product-le _ (c .before .before .before .pre))
 
 mul-result-2 : tie.Need-mul-result-2
 mul-result-2 c = omega (arith, product-le _ (c .before .before .before .pre))
-
-sub-result : tie.Need-sub-result
-sub-result c = search needs
-
-mul-result-3 : tie.Need-mul-result-3
-mul-result-3 c = search needs
-
-div-result : tie.Need-div-result
-div-result c = search needs
 
 returns : tie.Need-returns
 unfolding mm
@@ -41,12 +26,5 @@ returns c = refl
 pub most-point-spec : {M : Type 1} → statement M
 most-point-spec =
     tie.close
-    (tie.spec
-    add-result
-    add-result-2
-    mul-result
-    mul-result-2
-    sub-result
-    mul-result-3
-    div-result
+    (tie.spec (λ c. search needs) (λ c. search needs) mul-result mul-result-2 (λ c. search needs) (λ c. search needs) (λ c. search needs)
     returns)

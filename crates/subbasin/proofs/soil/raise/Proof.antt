@@ -5,19 +5,10 @@ use Rattle.curve.proofs.capacity.CallLaws.{curve-limits, from-le, risen}
 use Rattle.subbasin.proofs.soil.raise.Statement.{statement}
 use Rattle.subbasin.proofs.soil.raise.Tie as tie
 
-ordinate-requires : tie.Need-ordinate-requires
-ordinate-requires c κs = search needs
-
 add-least : tie.Need-add-least
 add-least c =
     let pre = c .before .before .pre in
     omega (arith, from-le (curve-limits _ _ _ (pre .0)) (pre .1) (c .before .ordinate .ensures), curve-limits _ _ _ (pre .0), pre .2)
-
-least-requires : tie.Need-least-requires
-least-requires c κs = search needs
-
-held-requires : tie.Need-held-requires
-held-requires c κs = search needs
 
 returns : tie.Need-returns
 returns c =
@@ -25,4 +16,4 @@ returns c =
     risen (curve-limits _ _ _ (pre .0)) (pre .1) (c .before .before .before .ordinate .ensures) _ (c .before .least .ensures) (c .held .ensures)
 
 pub raise-spec : {M : Type 1} → statement M
-raise-spec = tie.close (tie.spec ordinate-requires add-least least-requires held-requires returns)
+raise-spec = tie.close (tie.spec (λ c κs. search needs) add-least (λ c κs. search needs) (λ c κs. search needs) returns)

@@ -42,12 +42,6 @@ mul-rb c = omega (arith, mul-le-mul (c .before .before .pre .0 .im-most) (c .bef
 sub-x : tie.Need-sub-x
 sub-x c = impervious-le _ _ (c .before .before .pre .0)
 
-add-gain-of : tie.Need-add-gain-of
-add-gain-of c = search needs
-
-add-gain-of-2 : tie.Need-add-gain-of-2
-add-gain-of-2 c = search needs
-
 gain-of-requires : tie.Need-gain-of-requires
 gain-of-requires c κs = (c .before .before .before .before .pre .0, omega (arith, c .before .before .before .before .pre .1), omega arith, c .before .before .before .before .pre .2)
 
@@ -62,14 +56,4 @@ returns-2 c = some-runoff _ _ _ (c .before .before .before .before .before .befo
 
 pub run-off-spec : {M : Type 1} → statement M
 run-off-spec =
-    tie.close
-    (tie.spec
-    returns
-    mul-rb
-    sub-x
-    add-gain-of
-    add-gain-of-2
-    gain-of-requires
-    sub-t8
-    fill-requires
-    returns-2)
+    tie.close (tie.spec returns mul-rb sub-x (λ c. search needs) (λ c. search needs) gain-of-requires sub-t8 fill-requires returns-2)

@@ -13,9 +13,8 @@ use Rattle.subbasin.specs.declared.soil.Evaporated.{Evaporated}
 use Rattle.subbasin.specs.declared.soil.Runoff.{Runoff}
 use Rattle.subbasin.specs.declared.free_water.Parted.{Parted}
 use Rattle.subbasin.specs.declared.record.LagLine.{LagLine}
-use Rattle.subbasin.specs.declared.step.Stepped.{Stepped}
 use Rattle.subbasin.specs.Lag.{leaving, entered}
-use Rattle.subbasin.specs.Step.{slowStore, let-go, total, with-parted}
+use Rattle.subbasin.specs.Step.{slowStore, let-go, total, gathered, with-parted}
 use Rattle.common.proofs.amounts.AmountLaws.{UpTo, up-to-at}
 use Rattle.subbasin.proofs.record.RecordLaws.{RecordIn, record-limits}
 use Rattle.subbasin.proofs.step.StepLaws.{total-fits}
@@ -76,36 +75,7 @@ module _ (s : SubBasin) (ro : Runoff) (pw : Parted) (fits : RecordIn (s .fixed .
       → c-store ≡ slowStore (s .fixed .cs) (s .channel) → c ≡ storeCall c-store out
       → out ≡ leaving (s .line) ((pw .rs + ro .rb + i .outflow + g .outflow) * s .fixed .area)
       → line ≡ entered (s .line) ((pw .rs + ro .rb + i .outflow + g .outflow) * s .fixed .area)
-      → _≡_ {A = Stepped}
-      (record {
-        number = 0;
-        place = 0;
-        after =
-            record {
-              fixed = s .fixed;
-              contents =
-                  record {
-                    wu = ro .layers .wu;
-                    wl = ro .layers .wl;
-                    wd = ro .layers .wd;
-                    g = pw .g;
-                    vi = i .store .content;
-                    vg = g .store .content;
-                  };
-              line = line;
-              channel = c .store .content;
-            };
-        eu = ev .eu;
-        el = ev .el;
-        ed = ev .ed;
-        rb = ro .rb;
-        r = ro .r;
-        rs = pw .rs;
-        ri = pw .ri;
-        rg = pw .rg;
-        q = c .outflow;
-      })
-      (with-parted s ev ro pw)
+      → gathered s ev ro pw (i .store .content) (g .store .content) line (c .store .content) (c .outflow) ≡ with-parted s ev ro pw
   gathers ev {c-store} {c} {out} {line} made taken leaves enters =
       let t : ℕ = (pw .rs + ro .rb + i .outflow + g .outflow) * s .fixed .area in
       let c-is : c ≡ released (slowStore (s .fixed .cs) (s .channel)) out =
@@ -134,17 +104,8 @@ module _ (c : tie.After-take2) where
 slow-requires : tie.Need-slow-requires
 slow-requires c κs = route-in _ (record-limits _ _ (c .before .before .before .pre .0)) .ci-in
 
-take-requires : tie.Need-take-requires
-take-requires c κs = search needs
-
 slow-requires-2 : tie.Need-slow-requires-2
 slow-requires-2 c κs = route-in _ (record-limits _ _ (c .before .before .before .before .before .pre .0)) .cg-in
-
-take-requires-2 : tie.Need-take-requires-2
-take-requires-2 c κs = search needs
-
-add-t : tie.Need-add-t
-add-t c = search needs
 
 add-t-2 : tie.Need-add-t-2
 add-t-2 c = omega (arith, sums-at (c .before .before .before))
@@ -161,9 +122,6 @@ slow-requires-3 c κs = route-in _ (record-limits _ _ (c .before .before .before
 leave-requires : tie.Need-leave-requires
 leave-requires c κs = route-in _ (record-limits _ _ (c .before .before .before .before .before .before .before .before .before .before .before .before .before .pre .0)) .lag-in
 
-take-requires-3 : tie.Need-take-requires-3
-take-requires-3 c κs = search needs
-
 enter-requires : tie.Need-enter-requires
 enter-requires c κs = route-in _ (record-limits _ _ (c .before .before .before .before .before .before .before .before .before .before .before .before .before .before .before .before .before .before .before .pre .0)) .lag-in
 
@@ -177,17 +135,5 @@ returns c =
 pub route-spec : {M : Type 1} → statement M
 route-spec =
     tie.close
-    (tie.spec
-    slow-requires
-    take-requires
-    slow-requires-2
-    take-requires-2
-    add-t
-    add-t-2
-    add-t-3
-    mul-t
-    slow-requires-3
-    leave-requires
-    take-requires-3
-    enter-requires
-    returns)
+    (tie.spec slow-requires (λ c κs. search needs) slow-requires-2 (λ c κs. search needs) (λ c. search needs) add-t-2 add-t-3 mul-t
+    slow-requires-3 leave-requires (λ c κs. search needs) enter-requires returns)

@@ -1,6 +1,6 @@
 -- `subbasin::step::run` meets its contract: each stage hands the next what it asks. Assumes nothing.
 use mathlib.Core.Path.{_≡_, ap, _∙_}
-use Prim.Native.Nat.{ℕ, _+_, _*_, _/_, _≤_}
+use Prim.Native.Nat.{_+_, _*_, _/_, _≤_}
 use native.Mathlib.Nat.{mul-le-mul}
 use native.Mathlib.Omega.{arith}
 use Rattle.common.specs.Shares.{one}
@@ -116,12 +116,4 @@ returns c =
     (c .before .before .before .before .evaporate .ensures) (c .before .before .run-off .ensures) (c .before .drain .ensures) (c .route .ensures)
 
 pub run-spec : {M : Type 1} → statement M
-run-spec =
-    tie.close
-    (tie.spec
-    mul-evaporate
-    evaporate-requires
-    run-off-requires
-    drain-requires
-    route-requires
-    returns)
+run-spec = tie.close (tie.spec mul-evaporate evaporate-requires run-off-requires drain-requires route-requires returns)

@@ -13,20 +13,11 @@ use Rattle.subbasin.proofs.step.step.Tie as tie
 outside : (s : SubBasin) → recordIn (s .fixed .reach) s ≡ false → RecordIn (s .fixed .reach) s → ⊥
 outside s n h = true≢false (sym (record-in (s .fixed .reach) s h) ∙ n)
 
-refuse-requires : tie.Need-refuse-requires
-refuse-requires c κs = search needs
-
 returns : tie.Need-returns
 returns c = c .refuse .ensures ∙ sym (step-refuses _ _ (λ h. omega (arith, h .in-weather .rain-most)))
 
-refuse-requires-2 : tie.Need-refuse-requires-2
-refuse-requires-2 c κs = search needs
-
 returns-2 : tie.Need-returns-2
 returns-2 c = c .refuse2 .ensures ∙ sym (step-refuses _ _ (λ h. omega (arith, h .in-weather .pan-most)))
-
-allowed-requires : tie.Need-allowed-requires
-allowed-requires c κs = search needs
 
 run-requires : tie.Need-run-requires
 run-requires c κs = (sym (c .before .allowed .ensures) ∙ c .if3 .taken, omega arith)
@@ -41,22 +32,11 @@ returns-3 c =
       in-weather = record { rain-most = c .before .before .before .before .before .if1 .left; pan-most = c .before .before .before .if2 .left };
     }))
 
-refuse-requires-3 : tie.Need-refuse-requires-3
-refuse-requires-3 c κs = search needs
-
 returns-4 : tie.Need-returns-4
 returns-4 c = c .refuse3 .ensures ∙ sym (step-refuses _ _ (λ h. outside _ (sym (c .before .before .allowed .ensures) ∙ c .before .if3 .left) (h .in-record)))
 
 pub step-spec : {M : Type 1} → statement M
 step-spec =
     tie.close
-    (tie.spec
-    refuse-requires
-    returns
-    refuse-requires-2
-    returns-2
-    allowed-requires
-    run-requires
-    returns-3
-    refuse-requires-3
-    returns-4)
+    (tie.spec (λ c κs. search needs) returns (λ c κs. search needs) returns-2 (λ c κs. search needs) run-requires returns-3
+    (λ c κs. search needs) returns-4)

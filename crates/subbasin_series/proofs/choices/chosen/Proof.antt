@@ -8,6 +8,6 @@ use Rattle.subbasin_series.proofs.choices.chosen.Tie as tie
 
 pub chosen-spec : {M : Type 1} → statement M
 chosen-spec =
-    tie.close (tie.spec (λ pick from to x s₀ place₀ s place. place₀ ≤ place)
-    (λ pick from to x s₀ place₀ s place. to - place)
-    (λ c. omega arith) (λ c κs. search needs) (λ c. omega arith) (λ c. omega arith) (λ c. omega arith) (λ c. omega arith))
+    tie.close
+    (tie.spec (λ pick from to x s₀ place₀ s place. place₀ ≤ place) (λ pick from to x s₀ place₀ s place. to - place) (λ c. omega arith)
+    (λ c κs. search needs) (λ c. omega arith) (λ c. omega arith) (λ c. omega arith) (λ c. omega arith))

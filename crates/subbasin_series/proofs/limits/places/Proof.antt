@@ -8,6 +8,6 @@ use Rattle.subbasin_series.proofs.limits.places.Tie as tie
 
 pub places-spec : {M : Type 1} → statement M
 places-spec =
-    tie.close (tie.spec (λ count call place₀ place. place ≤ count)
-    (λ count call place₀ place. count - place)
-    (λ c. omega arith) (λ c κs. search needs) (λ c. omega arith) (λ c. omega arith) (λ c. omega arith) (λ c. omega arith))
+    tie.close
+    (tie.spec (λ count call place₀ place. place ≤ count) (λ count call place₀ place. count - place) (λ c. omega arith)
+    (λ c κs. search needs) (λ c. omega arith) (λ c. omega arith) (λ c. omega arith) (λ c. omega arith))

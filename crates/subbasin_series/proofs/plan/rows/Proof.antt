@@ -8,6 +8,6 @@ use Rattle.subbasin_series.proofs.plan.rows.Tie as tie
 
 pub rows-spec : {M : Type 1} → statement M
 rows-spec =
-    tie.close (tie.spec (λ row count x₀ k₀ x k. k ≤ count)
-    (λ row count x₀ k₀ x k. count - k)
-    (λ c. omega arith) (λ c κs. search needs) (λ c. omega arith) (λ c. omega arith) (λ c. omega arith) (λ c. omega arith))
+    tie.close
+    (tie.spec (λ row count x₀ k₀ x k. k ≤ count) (λ row count x₀ k₀ x k. count - k) (λ c. omega arith) (λ c κs. search needs)
+    (λ c. omega arith) (λ c. omega arith) (λ c. omega arith) (λ c. omega arith))

@@ -10,7 +10,6 @@ use Rattle.testing.proofs.checksum.fold_row.Tie as tie
 
 pub fold-row-spec : {M : Type 1} → statement M
 fold-row-spec =
-    tie.close (tie.spec (λ h row h₀ i₀ i-end h' i. (i-end ≡ length row) × (i ≤ i-end))
-    (λ h row h₀ i₀ i-end h' i. i-end - i)
-    (λ c. omega arith) (λ c. omega arith) (λ c. omega arith) (λ c κs. search needs) (λ c. omega arith) (λ c. omega arith)
-    (λ c. omega arith) (λ c. omega arith))
+    tie.close
+    (tie.spec (λ h row h₀ i₀ i-end h' i. (i-end ≡ length row) × (i ≤ i-end)) (λ h row h₀ i₀ i-end h' i. i-end - i) (λ c. omega arith)
+    (λ c. omega arith) (λ c. omega arith) (λ c κs. search needs) (λ c. omega arith) (λ c. omega arith) (λ c. omega arith) (λ c. omega arith))

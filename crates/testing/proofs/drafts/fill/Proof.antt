@@ -8,6 +8,6 @@ use Rattle.testing.proofs.drafts.fill.Tie as tie
 
 pub fill-spec : {M : Type 1} → statement M
 fill-spec =
-    tie.close (tie.spec (λ bytes₀ plan words x x₀ at₀ bytes x' at. 2 ≤ at)
-    (λ bytes₀ plan words x x₀ at₀ bytes x' at. words - at)
-    (λ c. omega arith) (λ c κs. search needs) (λ c. omega arith) (λ c. omega arith) (λ c. omega arith) (λ c. omega arith))
+    tie.close
+    (tie.spec (λ bytes₀ plan words x x₀ at₀ bytes x' at. 2 ≤ at) (λ bytes₀ plan words x x₀ at₀ bytes x' at. words - at) (λ c. omega arith)
+    (λ c κs. search needs) (λ c. omega arith) (λ c. omega arith) (λ c. omega arith) (λ c. omega arith))

@@ -10,7 +10,6 @@ use Rattle.testing.proofs.lines.row.Tie as tie
 
 pub row-spec : {M : Type 1} → statement M
 row-spec =
-    tie.close (tie.spec (λ numbers i₀ i-end i. (i-end ≡ length numbers) × (i ≤ i-end))
-    (λ numbers i₀ i-end i. i-end - i)
-    (λ c. omega arith) (λ c. omega arith) (λ c. omega arith) (λ c κs. search needs) (λ c. omega arith) (λ c. omega arith)
-    (λ c. omega arith) (λ c. omega arith))
+    tie.close
+    (tie.spec (λ numbers i₀ i-end i. (i-end ≡ length numbers) × (i ≤ i-end)) (λ numbers i₀ i-end i. i-end - i) (λ c. omega arith)
+    (λ c. omega arith) (λ c. omega arith) (λ c κs. search needs) (λ c. omega arith) (λ c. omega arith) (λ c. omega arith) (λ c. omega arith))
