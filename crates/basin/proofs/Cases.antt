@@ -1,7 +1,7 @@
 -- Case A of document 01: its file is accepted, and its three steps over the definitions give the lines that the document prints.
 -- So demand 3 is about something. Assumes nothing.
-use mathlib.Core.Path.{_≡_, refl, sym, ap, _∙_}
-use mathlib.Core.Bool.{true, true≢false}
+use mathlib.Core.Path.{_≡_, refl, ap}
+use mathlib.Core.Bool.{true}
 use mathlib.Core.List.{List, [], _∷_, _++_}
 use lib.ListN.{replicate}
 use lib.Ieee.{ofBits}
@@ -13,9 +13,8 @@ use Rattle.common.specs.Cases.{Row, Agree}
 use Rattle.curve.specs.Store.{outflow, content}
 use Rattle.curve.specs.Cases.{curveCases}
 use Rattle.curve.proofs.Cases.{curve-cases}
-use Rattle.forcing.specs.Depth.{numerator, denominator, nearest, depthOf, fromZeroTo, unfit, aboveLimit, numberOf}
-use Rattle.forcing.specs.List.{weatherOf, lineInside, Inside, isInside, lineNumber, refusal, judgedLines, reading}
-use Rattle.forcing.proofs.list.ReadLaws.{test-inside, inside-test}
+use Rattle.forcing.specs.Depth.{numerator, denominator, nearest, depthOf, unfit, aboveLimit, numberOf}
+use Rattle.forcing.specs.List.{weatherOf, lineNumber, refusal, judgedLines, reading}
 use Rattle.forcing.proofs.Cases.{sixteenth}
 use Rattle.subbasin.specs.declared.record.SubBasin.{SubBasin}
 use Rattle.subbasin.specs.Record.{blankSub, isBlank, recordIn}
@@ -66,15 +65,6 @@ unfolding loadCall loadCounts loadLength loadWords firstOut fileBasin filled fil
 load-a = refl
 
 -- ---- the three calls
-
-pub inside-1 : Inside (call-1 .lines) (call-1 .count) 1
-inside-1 = test-inside (unfold isInside every lineInside fromZeroTo ofBits in refl)
-
-pub outside-2 : Inside (call-2 .lines) (call-2 .count) 1 → ⊥
-outside-2 i = true≢false (sym (inside-test i) ∙ (unfold isInside every lineInside fromZeroTo ofBits in refl))
-
-pub inside-3 : Inside (call-3 .lines) (call-3 .count) 1
-inside-3 = test-inside (unfold isInside every lineInside fromZeroTo ofBits in refl)
 
 reading-1 : reading (call-1 .lines) 1 1 ≡ record { number = 0; place = 0; estimated = 0; weather = record { rain = 135000; pan = 0 } ∷ replicate 31 (record { rain = 0; pan = 0 }) }
 unfolding ofBits numberOf unfit aboveLimit depthOf nearest numerator denominator lineNumber weatherOf firstBad sumOf filled judgedLines reading

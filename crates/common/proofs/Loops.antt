@@ -3,7 +3,7 @@ use mathlib.Core.Path.{_≡_, refl, sym, ap, _∙_}
 use mathlib.Core.Bool.{Bool, true, false, _&&_, and-false}
 use mathlib.Core.List.{List}
 use Prim.Native.Nat.{ℕ, zero, suc, _+_, _*_, _≤_, _<_}
-use native.Mathlib.Decide.{decLe, ℕ-discrete}
+use native.Mathlib.Decide.{ℕ-discrete}
 use native.Mathlib.Numerals.{add-one}
 use native.Mathlib.Omega.{arith}
 use lib.ListN.{length, getD, set, replicate, length-set, length-replicate}
@@ -31,12 +31,6 @@ module _ {S : Type 0} {turn : ℕ → S → S} {s₀ : S} {n : ℕ} where
 
     pub carry-end : n ≤ i → s ≡ run turn n s₀
     carry-end h = let all : i ≡ n = omega (arith, c .place) in c .so-far ∙ ap (λ (k : ℕ). run turn k s₀) all
-
--- what a state keeps through every turn
-pub run-keeps : {S : Type 0} (P : S → Type 0) (turn : ℕ → S → S) (n : ℕ) (s : S) → P s → ((i : ℕ) → i < n → (t : S) → P t → P (turn i t)) → P (run turn n s)
-unfolding run
-run-keeps P turn zero s h k = h
-run-keeps P turn (suc n) s h k = k n (omega arith) (run turn n s) (run-keeps P turn n s h (λ i l. k i (omega arith)))
 
 -- ---- fill
 
@@ -94,9 +88,6 @@ module _ {A : Type 0} {x : ℕ → A} {l₀ : List A} {n : ℕ} where
     pub fill-end : n ≤ i → l ≡ filled x n l₀
     fill-end h = let all : i ≡ n = omega (arith, s .place) in s .so-far ∙ ap (λ (k : ℕ). filled x k l₀) all
 
-    pub fill-length : length l ≡ length l₀
-    fill-length = ap length (s .so-far) ∙ filled-length x i l₀
-
     -- the entry that is next is as it was
     pub fill-here : (d : A) → getD l i d ≡ getD l₀ i d
     fill-here d = ap (λ (k : List A). getD k i d) (s .so-far) ∙ filled-past x i l₀ d i (omega arith)
@@ -117,15 +108,6 @@ unfolding sumOf
 sum-bound f b zero h = omega arith
 sum-bound f b (suc n) h = omega (arith, sum-bound f b n (λ k l. h k (omega arith)), h n (omega arith))
 
-pub sum-more : (f : ℕ → ℕ) (i n : ℕ) → i ≤ n → sumOf f i ≤ sumOf f n
-unfolding sumOf
-sum-more f i zero h = let z : i ≡ 0 = omega arith in rw z (omega arith)
-sum-more f i (suc n) h = go (decLe i n) (sum-more f i n)
-  where
-    go : Dec (i ≤ n) → (i ≤ n → sumOf f i ≤ sumOf f n) → sumOf f i ≤ sumOf f n + f n
-    go (yes l) g = omega (arith, g l)
-    go (no k) g = let e : i ≡ suc n = omega arith in rw e (omega arith)
-
 pub record Adding (f : ℕ → ℕ) (n i all : ℕ) : Type 0 where
   pub place : i ≤ n
   pub so-far : all ≡ sumOf f i
@@ -139,9 +121,6 @@ module _ {f : ℕ → ℕ} {n : ℕ} where
     pub add-turn : {y : ℕ} → i < n → y ≡ f i → Adding f n (i + 1) (all + y)
     unfolding sumOf
     add-turn h e = record { place = omega arith; so-far = rw (add-one i) (omega (arith, s .so-far)) }
-
-    pub add-fits : {y : ℕ} → i < n → y ≡ f i → all + y ≤ sumOf f n
-    add-fits h e = omega (arith, add-turn h e .so-far, sum-more f (i + 1) n (omega arith))
 
     pub add-end : n ≤ i → all ≡ sumOf f n
     add-end h = let end : i ≡ n = omega (arith, s .place) in s .so-far ∙ ap (sumOf f) end
@@ -170,11 +149,6 @@ every-fails p (suc n) k l h = go (ℕ-discrete k n) (λ b. every-fails p n k b h
     go : Dec (k ≡ n) → (k < n → every p n ≡ false) → every p n && p n ≡ false
     go (yes e) f = rw (← e, h, and-false)
     go (no ne) f = rw (f (omega arith))
-
-pub every-same : (p q : ℕ → Bool) (n : ℕ) → ((k : ℕ) → k < n → p k ≡ q k) → every p n ≡ every q n
-unfolding every
-every-same p q zero h = refl
-every-same p q (suc n) h = rw (every-same p q n (λ k b. h k (omega arith)), h n (omega arith))
 
 pub record Trying (p : ℕ → Bool) (n i : ℕ) : Type 0 where
   pub place : i ≤ n

@@ -1,6 +1,6 @@
 -- What 9's limits of a basin say, both ways, and their tests one after the other. Assumes nothing.
 use mathlib.Core.Path.{_≡_, refl, sym, _∙_}
-use mathlib.Core.Bool.{Bool, true, false, _&&_, and-false, true≢false}
+use mathlib.Core.Bool.{Bool, true, false, _&&_, and-false}
 use mathlib.Core.List.{List, [], _∷_}
 use Prim.Native.Nat.{ℕ, zero, suc, _+_, _-_, _≤_, _<_}
 use native.Mathlib.Omega.{arith}
@@ -62,13 +62,6 @@ unfolding isBlank allUpTo
 blank-read [] i = refl
 blank-read (s ∷ l) zero = refl
 blank-read (s ∷ l) (suc i) = blank-read l i
-
--- and neither is allowed
-pub used-same : (m : ℕ) (l : List SubBasin) (i : ℕ) → recordIn m (getD l i noSub) ≡ true → getD l i noSub ≡ getD l i blankSub
-unfolding recordIn wordsIn
-used-same m [] i t = absurd (true≢false (sym t))
-used-same m (s ∷ l) zero t = refl
-used-same m (s ∷ l) (suc i) t = used-same m l i t
 
 -- all is inside its limits but the sub-basins in use
 pub record OthersIn (b : Basin) : Type 0 where

@@ -85,10 +85,6 @@ pass-length j r p = send-length (set p j 0) (r .next) (reachOut r (getD p j 0)) 
 -- ---- the first k reaches
 
 module _ (rs : List Reach) (p : List ℕ) where
-  pub flows-next : (k : ℕ) → flows rs (suc k) p ≡ passed (suc k) (getD rs k blankReach) (flows rs k p)
-  unfolding flows run
-  flows-next k = refl
-
   pub flows-length : (k : ℕ) → length (flows rs k p) ≡ length p
   unfolding flows run
   flows-length zero = refl

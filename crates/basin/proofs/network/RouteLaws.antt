@@ -18,7 +18,7 @@ use Rattle.basin.specs.Reach.{blankReach}
 use Rattle.basin.specs.Network.{send, reachOut, reachAfter, passed, flows, inflow, reachesAfter}
 use Rattle.basin.specs.Workers.{Passing, Flowing, Flowed}
 use Rattle.basin.proofs.reach.ReachLaws.{ReachIn, reach-limits}
-use Rattle.basin.proofs.network.NetworkLaws.{flows-length, flows-most, contents-most, after-same}
+use Rattle.basin.proofs.network.NetworkLaws.{flows-most, contents-most, after-same}
 
 -- i reaches have had their turn
 pub record Routing (m : ℕ) (rs : List Reach) (p : List ℕ) (i : ℕ) (after : List Reach) (pending : List ℕ) (held : ℕ) : Type 0 where
@@ -52,9 +52,6 @@ module _ (m : ℕ) (rs : List Reach) (p : List ℕ) where
     pending-is : pending ≡ flows rs i p
     unfolding flows
     pending-is = s .carrying .so-far
-
-    pub pending-wide : length pending ≡ 32
-    pending-wide = ap length pending-is ∙ flows-length rs p i ∙ s .wide
 
     module _ (more : i < m) (d : Reach) where
       -- the reach that is next is as it was

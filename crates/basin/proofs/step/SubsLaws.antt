@@ -10,7 +10,7 @@ use Rattle.common.specs.Weather.{calm, WeatherIn}
 use Rattle.common.specs.Amounts.{sum}
 use Rattle.common.proofs.amounts.AmountLaws.{getD-within, at-most-sum, sum-zeros}
 use Rattle.common.proofs.Loops.{Trying, try-begin, try-turn, try-stop, try-end}
-use Rattle.common.proofs.Loops.{Filling, fill-begin, fill-turn, fill-end, fill-here, fill-length, Carrying, carry-begin, carry-turn, carry-end}
+use Rattle.common.proofs.Loops.{Filling, fill-begin, fill-turn, fill-end, fill-here, Carrying, carry-begin, carry-turn, carry-end}
 use Rattle.common.proofs.Loops.{Adding, add-begin, add-turn, add-end}
 use Rattle.subbasin.specs.declared.record.SubBasin.{SubBasin}
 use Rattle.subbasin.specs.Record.{blankSub, recordIn}
@@ -75,9 +75,6 @@ module _ (b : Basin) (ws : List Weather) where
     pub sent-wide : length sent ≡ 32
     unfolding sentBy
     sent-wide = ap length (s .sending .so-far) ∙ sent-length b ws i
-
-    pub subs-long : length subs ≡ 32
-    subs-long = fill-length (s .filling) ∙ s .long
 
     module _ (more : i < b .n) where
       -- the sub-basin that is next is as it was, and has its own line's weather

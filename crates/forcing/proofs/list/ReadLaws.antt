@@ -128,13 +128,6 @@ module _ (lines : List Line) (count n : ℕ) where
       go (yes l) (no k) each = rw (List·getD-eq-default (table here calm n 32) calm {n = i} (omega (arith, table-length here calm 32 n))) none
       go (no l) k each = rw (table-past here calm 32 n i (omega arith)) none
 
-  -- calm past the last line, in a refused answer too
-  pub weather-past : (i : ℕ) → n ≤ i → getD (reading lines count n .weather) i calm ≡ calm
-  weather-past i p =
-      reading-cases (λ (r : Forcing). getD (r .weather) i calm ≡ calm) lines count n
-      (λ j. table-past here calm 32 n i p)
-      (λ t number place h. getD-repeat calm 32 i)
-
   -- the depths of each line's own numbers
   pub weather-at : n ≤ 32 → reading lines count n .number ≡ 0 → (i : ℕ) → i < n
       → getD (reading lines count n .weather) i calm ≡ weatherOf (lineAt lines i)

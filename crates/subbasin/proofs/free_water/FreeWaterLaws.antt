@@ -37,10 +37,6 @@ ms-least p free = omega (arith, mul-le-mul {n₁ = 1} {m₁ = 16} {n₂ = p .sm}
 pub free-curve : (p : Parameters) → FreeIn p → CurveIn (p .sm) (ms p) (p .xn)
 free-curve p free = omega (arith, ms-least p free, ms-most p free)
 
-pub level-most : (p : Parameters) (g pe r : ℕ) → level p g pe r ≤ p .sm
-unfolding level
-level-most p g pe r = omega arith
-
 -- a part r / pe of what is at most m is at most m
 part-most : (x m r pe : ℕ) → x ≤ m → r ≤ pe → x * r / pe ≤ m
 part-most x m r pe h k = div-le-of-le-mul pe (omega (arith, mul-le-mul {n₁ = x} {m₁ = r} {n₂ = m} {m₂ = pe} h k))

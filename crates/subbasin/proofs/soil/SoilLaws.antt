@@ -38,10 +38,6 @@ pub record Evaporates (w : Layers) (rain e : ℕ) (ev : Evaporated) : Type 0 whe
   pub pe-most : ev .pe ≤ rain
   pub most : ev .eu + ev .el + ev .ed ≤ e
 
-pub evaporation-balances : (w : Layers) (rain e : ℕ) (ev : Evaporated) → Evaporates w rain e ev
-    → rain + tension w ≡ ev .eu + ev .el + ev .ed + ev .pe + tension (ev .layers)
-evaporation-balances w rain e ev h = omega arith
-
 fallen-evaporates : (w : Layers) (rain e u el ed : ℕ) → u ≤ w .wu → el ≤ w .wl → ed ≤ w .wd → rain + u + el + ed ≤ e
     → Evaporates w rain e (fallen w rain u el ed)
 fallen-evaporates w rain e u el ed hu hl hd h = omega arith

@@ -1,7 +1,6 @@
--- The sub-basin call: accepted inside its limits, refused outside; and always accepted of a sound record. Assumes nothing.
+-- The sub-basin call: accepted inside its limits, refused outside. Assumes nothing.
 use mathlib.Core.Path.{_≡_}
 use mathlib.Core.Bool.{true, _&&_}
-use native.Mathlib.Nat.{le-refl}
 use native.Mathlib.Omega.{arith}
 use lib.Dec.{leb}
 use borrow.Author.Tests.{le-leb, leb-true}
@@ -13,7 +12,6 @@ use Rattle.subbasin.specs.declared.step.Stepped.{Stepped}
 use Rattle.subbasin.specs.Record.{recordIn}
 use Rattle.subbasin.specs.Step.{stepped, returned, callIn, subCall}
 use Rattle.subbasin.proofs.record.RecordLaws.{RecordIn, record-in, record-limits}
-use Rattle.subbasin.proofs.step.StepLaws.{Sound, sound-in}
 
 -- the limits of the call
 pub record CallIn (s : SubBasin) (w : Weather) : Type 0 where
@@ -45,6 +43,3 @@ module _ (s : SubBasin) (w : Weather) where
   unfolding subCall
   step-accepted =
       by-test (λ (st : Stepped). st .number ≡ 0 → CallIn s w) (callIn s w) (λ t e. call-limits t) (λ t e. absurd (omega arith))
-
-  pub sound-accepts : Sound s → WeatherIn w → subCall s w ≡ stepped s w
-  sound-accepts h k = step-accepts (record { in-record = sound-in (s .fixed .reach) s h (le-refl (s .fixed .reach)); in-weather = k })
