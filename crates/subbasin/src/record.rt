@@ -2,8 +2,8 @@
 ghost use mathlib.Core.Path.{_≡_};
 ghost use Prim.Native.Nat.{_-_, _≤_};
 ghost use Rattle.common.specs.Shares.{one};
-ghost use Rattle.subbasin.specs.Workers.{further, leading};
-ghost use Rattle.subbasin.specs.Record.{words, wordsOf, ofWords, firstOutside, recordIn, isBlank};
+ghost use Rattle.subbasin.specs.Workers.{further};
+ghost use Rattle.subbasin.specs.Record.{wordsOf, ofWords, firstOutside, recordIn, isBlank};
 use crate::lag;
 use common::amounts;
 use common::shares::ONE;
@@ -140,13 +140,6 @@ pub fn words_of(s: SubBasin) -> [u64; WORDS]
 // The number of the first word outside its range, counted from 0, and WORDS where none is. REACH is up to m, VI and VG up to v.
 pub fn first_outside(s: SubBasin, m: u64, v: u64) -> u64
     ensures { λ r. ⌜ r ≡ firstOutside m v s ⌝ }
-{
-    inside(s, m, v)
-}
-
-// How many words from the first on are inside their ranges.
-fn inside(s: SubBasin, m: u64, v: u64) -> u64
-    ensures { λ r. ⌜ r ≡ leading 0 0 (words m v s) ⌝ }
 {
     let p = s.fixed;
     let w = s.contents;
