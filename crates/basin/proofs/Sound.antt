@@ -13,7 +13,7 @@ use Rattle.subbasin.proofs.step.StepLaws.{Sound, sound-in, sound-step, sound-q}
 use Rattle.basin.specs.declared.reach.Reach.{Reach}
 use Rattle.basin.specs.declared.state.Basin.{Basin}
 use Rattle.basin.specs.Reach.{isBlankReach}
-use Rattle.basin.specs.State.{mostN, mostM, subAt, reachAt}
+use Rattle.basin.specs.State.{mostSubs, mostReaches, subAt, reachAt}
 use Rattle.basin.specs.Limits.{basinIn}
 use Rattle.basin.specs.Step.{stepOf, sentBy, basinAfter}
 use Rattle.basin.specs.Workers.{Weathers}
@@ -29,15 +29,15 @@ capsIn b = capsOf (λ i. subAt b i .fixed .reach) (b .n)
 
 pub record SoundBasin (b : Basin) : Type 0 where
   pub n-least : 1 ≤ b .n
-  pub n-most : b .n ≤ mostN
-  pub m-most : b .m ≤ mostM
+  pub n-most : b .n ≤ mostSubs
+  pub m-most : b .m ≤ mostReaches
   pub subs-length : length (b .subs) ≡ 32
   pub reaches-length : length (b .reaches) ≡ 31
   pub sound-subs : (i : ℕ) → i < b .n → Sound (subAt b i)
   pub reach-most : (i : ℕ) → i < b .n → subAt b i .fixed .reach ≤ b .m
-  pub blank-subs : (i : ℕ) → b .n ≤ i → i < mostN → isBlank (subAt b i) ≡ true
+  pub blank-subs : (i : ℕ) → b .n ≤ i → i < mostSubs → isBlank (subAt b i) ≡ true
   pub reach-words : (j : ℕ) → j < b .m → ReachWords (b .m) (suc j) (reachAt b j)
-  pub blank-reaches : (j : ℕ) → b .m ≤ j → j < mostM → isBlankReach (reachAt b j) ≡ true
+  pub blank-reaches : (j : ℕ) → b .m ≤ j → j < mostReaches → isBlankReach (reachAt b j) ≡ true
   pub held-down : HeldDown (b .m) (b .reaches) (capsIn b)
 
 module _ (b : Basin) (h : SoundBasin b) where

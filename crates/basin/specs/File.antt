@@ -13,7 +13,7 @@ use Rattle.basin.specs.declared.reach.Reach.{Reach}
 use Rattle.basin.specs.declared.state.Basin.{Basin}
 use Rattle.basin.specs.declared.file.Loaded.{Loaded}
 use Rattle.basin.specs.Reach.{reachWordCount, reachWords, blankReach}
-use Rattle.basin.specs.State.{mostN, mostM, emptyBasin}
+use Rattle.basin.specs.State.{mostSubs, mostReaches, emptyBasin}
 
 -- "N, M, then 23 words a sub-basin, then 3 a reach"
 abbrev pub fileN : List ℕ → ℕ
@@ -43,8 +43,8 @@ fileBasin f =
     record {
       n = fileN f;
       m = fileM f;
-      subs = table (fileSub f) blankSub (fileN f) mostN;
-      reaches = table (fileReach f (fileN f)) blankReach (fileM f) mostM;
+      subs = table (fileSub f) blankSub (fileN f) mostSubs;
+      reaches = table (fileReach f (fileN f)) blankReach (fileM f) mostReaches;
     }
 
 -- the words of sub-basins i, i + 1, .. and of reaches j, j + 1, .., so many as are left, with their ranges
@@ -80,7 +80,7 @@ loadLength f = cond (eqb (length f) (4 * (2 + wordCount * fileN f + reachWordCou
 
 -- "2 N or M outside its range (place 0 or 1, N first)"
 unfoldable pub loadCounts : List ℕ → Loaded
-loadCounts f = cond (within 1 (fileN f) mostN) (cond (within 0 (fileM f) mostM) (loadLength f) (refusedLoad 2 1)) (refusedLoad 2 0)
+loadCounts f = cond (within 1 (fileN f) mostSubs) (cond (within 0 (fileM f) mostReaches) (loadLength f) (refusedLoad 2 1)) (refusedLoad 2 0)
 
 -- "1 under 8 bytes (place 0)"; "A load checks in this order"
 unfoldable pub loadCall : List ℕ → Loaded

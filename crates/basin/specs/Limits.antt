@@ -10,25 +10,25 @@ use Rattle.subbasin.specs.Record.{recordIn, isBlank, blankSub}
 use Rattle.basin.specs.declared.reach.Reach.{Reach}
 use Rattle.basin.specs.declared.state.Basin.{Basin}
 use Rattle.basin.specs.Reach.{reachIn, isBlankReach, blankReach}
-use Rattle.basin.specs.State.{mostN, mostM}
+use Rattle.basin.specs.State.{mostSubs, mostReaches}
 
 -- "N 1..32, M 0..31"
 unfoldable pub countsIn : ℕ → ℕ → Bool
-countsIn n m = within 1 n mostN && within 0 m mostM
+countsIn n m = within 1 n mostSubs && within 0 m mostReaches
 
 -- of n sub-basins and m reaches: those in use, and those that are not: "an unused record not zero"
 unfoldable pub subsUsed : ℕ → ℕ → List SubBasin → Bool
 subsUsed m n subs = every (λ i. recordIn m (getD subs i blankSub)) n
 
 unfoldable pub subsBlank : ℕ → List SubBasin → Bool
-subsBlank n subs = every (λ k. isBlank (getD subs (n + k) blankSub)) (mostN - n)
+subsBlank n subs = every (λ k. isBlank (getD subs (n + k) blankSub)) (mostSubs - n)
 
 -- the reaches likewise; reach j, counted from 0, has the number j + 1
 unfoldable pub reachesUsed : ℕ → List Reach → Bool
 reachesUsed m reaches = every (λ j. reachIn m (suc j) (getD reaches j blankReach)) m
 
 unfoldable pub reachesBlank : ℕ → List Reach → Bool
-reachesBlank m reaches = every (λ k. isBlankReach (getD reaches (m + k) blankReach)) (mostM - m)
+reachesBlank m reaches = every (λ k. isBlankReach (getD reaches (m + k) blankReach)) (mostReaches - m)
 
 -- all but the sub-basins in use
 unfoldable pub othersIn : Basin → Bool

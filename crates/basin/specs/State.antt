@@ -10,11 +10,11 @@ use Rattle.basin.specs.declared.state.Basin.{Basin}
 use Rattle.basin.specs.Reach.{blankReach}
 
 -- N at most 32, M at most 31
-abbrev pub mostN : ℕ
-mostN = 32
+abbrev pub mostSubs : ℕ
+mostSubs = 32
 
-abbrev pub mostM : ℕ
-mostM = 31
+abbrev pub mostReaches : ℕ
+mostReaches = 31
 
 -- sub-basin i and reach j, counted from 0
 abbrev pub subAt : Basin → ℕ → SubBasin
@@ -29,4 +29,4 @@ contentOf b = sumOf (λ i. water (subAt b i)) (b .n) + sumOf (λ j. reachAt b j 
 
 -- "the empty basin, all zeros"
 abbrev pub emptyBasin : Basin
-emptyBasin = record { n = 0; m = 0; subs = replicate mostN blankSub; reaches = replicate mostM blankReach }
+emptyBasin = record { n = 0; m = 0; subs = replicate mostSubs blankSub; reaches = replicate mostReaches blankReach }

@@ -10,8 +10,8 @@ ghost use Rattle.basin.specs.Account.{Demand3};
 use crate::reach;
 use crate::reach::Reach;
 use crate::state::Basin;
-use crate::state::MOST_M;
-use crate::state::MOST_N;
+use crate::state::MOST_REACHES;
+use crate::state::MOST_SUBS;
 use common::bytes::word;
 use subbasin::record;
 use subbasin::record::MOST_START;
@@ -43,11 +43,11 @@ pub fn load(bytes: &[u8]) -> Loaded
     if n < 1 {
         return refuse(2, 0);
     }
-    if MOST_N < n {
+    if MOST_SUBS < n {
         return refuse(2, 0);
     }
     let m = word(bytes, 1);
-    if MOST_M < m {
+    if MOST_REACHES < m {
         return refuse(2, 1);
     }
     let words = SUB_WORDS * n + REACH_WORDS * m;

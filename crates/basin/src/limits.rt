@@ -5,8 +5,8 @@ ghost use Rattle.basin.specs.Limits.{countsIn, subsUsed, subsBlank, reac
 use crate::reach;
 use crate::reach::Reach;
 use crate::state::Basin;
-use crate::state::MOST_M;
-use crate::state::MOST_N;
+use crate::state::MOST_REACHES;
+use crate::state::MOST_SUBS;
 use subbasin::record;
 use subbasin::record::SubBasin;
 
@@ -32,10 +32,10 @@ fn counts_allowed(n: u64, m: u64) -> bool
     if n < 1 {
         return false;
     }
-    if MOST_N < n {
+    if MOST_SUBS < n {
         return false;
     }
-    if MOST_M < m {
+    if MOST_REACHES < m {
         return false;
     }
     true
@@ -63,7 +63,7 @@ fn subs_blank(subs: [SubBasin; 32], n: u64) -> bool
     ensures { λ r. ⌜ r ≡ subsBlank n subs ⌝ }
 {
     let mut k: u64 = 0;
-    while k < MOST_N - n {
+    while k < MOST_SUBS - n {
         let s = subs[(n + k) as usize];
         if record::is_blank(s) {
             k += 1;
@@ -95,7 +95,7 @@ fn reaches_blank(reaches: [Reach; 31], m: u64) -> bool
     ensures { λ r. ⌜ r ≡ reachesBlank m reaches ⌝ }
 {
     let mut k: u64 = 0;
-    while k < MOST_M - m {
+    while k < MOST_REACHES - m {
         let r = reaches[(m + k) as usize];
         if reach::is_blank(r) {
             k += 1;

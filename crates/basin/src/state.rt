@@ -14,9 +14,9 @@ pub struct Basin {
 }
 
 // The most sub-basins and reaches.
-pub const MOST_N: u64 = 32;
+pub const MOST_SUBS: u64 = 32;
 
-pub const MOST_M: u64 = 31;
+pub const MOST_REACHES: u64 = 31;
 
 // Whether 9 allows the basin.
 pub fn allowed(b: Basin) -> bool

@@ -7,7 +7,7 @@ use Rattle.common.proofs.Limits.{words-limits}
 use Rattle.curve.specs.Store.{outflow, content}
 use Rattle.curve.proofs.capacity.FastLaws.{fastRise, rise-fast}
 use Rattle.subbasin.specs.Record.{words, mostStart}
-use Rattle.subbasin.specs.Soil.{ep, evaporated, mm, rb, gain, filled, runoff}
+use Rattle.subbasin.specs.Soil.{ep, evaporated, mm, rb, gain, refilled, runoff}
 use Rattle.subbasin.specs.FreeWater.{ms, level, keep, parted}
 use Rattle.subbasin.specs.Lag.{leaving, waitingAfter, entered}
 use Rattle.subbasin.specs.Step.{stepped}
@@ -35,11 +35,11 @@ pub step-a : stepped case-a weather-a
       rg = 1111;
       q = 26666;
     }
-unfolding stepped evaporated ep runoff rb gain mm filled parted keep level ms outflow content leaving waitingAfter entered fastRise
+unfolding stepped evaporated ep runoff rb gain mm refilled parted keep level ms outflow content leaving waitingAfter entered fastRise
 step-a = simp rise-fast
 
 pub step-cases : Agree stepCases
-unfolding stepped evaporated ep runoff rb gain mm filled parted keep level ms outflow content leaving waitingAfter entered fastRise
+unfolding stepped evaporated ep runoff rb gain mm refilled parted keep level ms outflow content leaving waitingAfter entered fastRise
 step-cases = simp rise-fast (refl, (refl, (refl, (refl, (refl, (refl, (refl, tt)))))))
 
 -- so the laws of sound records are about something

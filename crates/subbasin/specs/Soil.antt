@@ -63,8 +63,8 @@ unfoldable pub gain : Parameters → ℕ → ℕ → ℕ → ℕ
 gain p w pe x = min x (rise (wm p) (mm p) (p .bn) w pe - w)
 
 -- "The gain fills WU to UM, then WL to LM, then WD"
-unfoldable pub filled : Parameters → Layers → ℕ → Layers
-filled p w gained =
+unfoldable pub refilled : Parameters → Layers → ℕ → Layers
+refilled p w gained =
     record {
       wu = w .wu + min gained (p .um - w .wu);
       wl = w .wl + min (gained - min gained (p .um - w .wu)) (p .lm - w .wl);
@@ -78,6 +78,6 @@ runoff p w pe =
     (record {
       rb = rb p pe;
       r = pe - rb p pe - gain p (tension w) pe (pe - rb p pe);
-      layers = filled p w (gain p (tension w) pe (pe - rb p pe));
+      layers = refilled p w (gain p (tension w) pe (pe - rb p pe));
     })
     (record { rb = 0; r = 0; layers = w })

@@ -4,7 +4,7 @@ ghost use Prim.Native.Nat.{_+_, _≤_, _<_};
 ghost use mathlib.Core.Bool.{true};
 ghost use Rattle.curve.specs.Capacity.{curveIn, rise};
 ghost use Rattle.subbasin.specs.Workers.{SoilIn, LayersIn};
-ghost use Rattle.subbasin.specs.Soil.{fallen, deeper, evaporated, tension, wm, mm, gain, filled, runoff};
+ghost use Rattle.subbasin.specs.Soil.{fallen, deeper, evaporated, tension, wm, mm, gain, refilled, runoff};
 use crate::record::Parameters;
 use common::amounts::least;
 use common::shares::ONE;
@@ -137,7 +137,7 @@ fn most_point(p: Parameters) -> u64
 // The gain fills the upper layer, then the lower, then the deep one.
 fn fill(p: Parameters, w: Layers, gained: u64) -> Layers
     requires { ⌜ LayersIn p w × (tension w + gained ≤ wm p) × (wm p ≤ 500000) ⌝ }
-    ensures { λ r. ⌜ r ≡ filled p w gained ⌝ }
+    ensures { λ r. ⌜ r ≡ refilled p w gained ⌝ }
 {
     let upper = least(gained, p.um - w.wu);
     let lower = least(gained - upper, p.lm - w.wl);

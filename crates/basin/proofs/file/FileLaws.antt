@@ -13,7 +13,7 @@ use Rattle.subbasin.specs.declared.record.SubBasin.{SubBasin}
 use Rattle.subbasin.specs.Record.{wordCount, words, firstOutside, blankSub, mostStart}
 use Rattle.basin.specs.declared.reach.Reach.{Reach}
 use Rattle.basin.specs.Reach.{reachWordCount, reachWords, blankReach}
-use Rattle.basin.specs.State.{mostN, mostM}
+use Rattle.basin.specs.State.{mostSubs, mostReaches}
 use Rattle.basin.specs.File.{fileN, fileM, fileSub, fileReach, fileBasin, subWords, reachesWords, allWords, fileWords}
 use Rattle.basin.specs.File.{refusedLoad, acceptedLoad, loadWords, loadLength, loadCounts, loadCall}
 
@@ -75,19 +75,19 @@ unfolding loadCall
 load-short f h = rw (lt-ltb (length f) 8 h)
 
 module _ (f : List ℕ) {n : ℕ} (long : 8 ≤ length f) (is-n : n ≡ fileN f) where
-  pub load-n : (1 ≤ n → n ≤ mostN → ⊥) → refusedLoad 2 0 ≡ loadCall f
+  pub load-n : (1 ≤ n → n ≤ mostSubs → ⊥) → refusedLoad 2 0 ≡ loadCall f
   unfolding loadCall loadCounts
-  load-n h = rw (le-ltb (length f) 8 long, ← is-n, within-not 1 n mostN h)
+  load-n h = rw (le-ltb (length f) 8 long, ← is-n, within-not 1 n mostSubs h)
 
-  module _ {m : ℕ} (n-least : 1 ≤ n) (n-most : n ≤ mostN) (is-m : m ≡ fileM f) where
-    pub load-m : mostM < m → refusedLoad 2 1 ≡ loadCall f
+  module _ {m : ℕ} (n-least : 1 ≤ n) (n-most : n ≤ mostSubs) (is-m : m ≡ fileM f) where
+    pub load-m : mostReaches < m → refusedLoad 2 1 ≡ loadCall f
     unfolding loadCall loadCounts
-    load-m h = rw (le-ltb (length f) 8 long, ← is-n, within-in 1 n mostN n-least n-most, ← is-m, within-not 0 m mostM (λ _ g. omega arith))
+    load-m h = rw (le-ltb (length f) 8 long, ← is-n, within-in 1 n mostSubs n-least n-most, ← is-m, within-not 0 m mostReaches (λ _ g. omega arith))
 
-    module _ (m-most : m ≤ mostM) where
+    module _ (m-most : m ≤ mostReaches) where
       counted : loadLength f ≡ loadCall f
       unfolding loadCall loadCounts
-      counted = rw (le-ltb (length f) 8 long, ← is-n, within-in 1 n mostN n-least n-most, ← is-m, within-in 0 m mostM (omega arith) m-most)
+      counted = rw (le-ltb (length f) 8 long, ← is-n, within-in 1 n mostSubs n-least n-most, ← is-m, within-in 0 m mostReaches (omega arith) m-most)
 
       pub load-size : (length f ≡ 4 * (2 + (wordCount * n + reachWordCount * m)) → ⊥) → refusedLoad 3 0 ≡ loadCall f
       unfolding loadLength
@@ -114,7 +114,7 @@ module _ (f : List ℕ) {n : ℕ} (long : 8 ≤ length f) (is-n : n ≡ fileN f)
         accepted e = rw (← sized, ← all, eq-eqb out (length (fileWords f)) (e ∙ sym many))
 
         pub load-all : {ss : List SubBasin} {rs : List Reach} → out ≡ wordCount * n + reachWordCount * m
-            → ss ≡ table (fileSub f) blankSub n mostN → rs ≡ table (fileReach f n) blankReach m mostM
+            → ss ≡ table (fileSub f) blankSub n mostSubs → rs ≡ table (fileReach f n) blankReach m mostReaches
             → record { number = 0; place = 0; basin = record { n = n; m = m; subs = ss; reaches = rs } } ≡ loadCall f
         unfolding fileBasin
         load-all e es er = rw (← (accepted e), es, er, is-n, is-m)

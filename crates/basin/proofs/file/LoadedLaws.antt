@@ -19,7 +19,7 @@ use Rattle.basin.specs.declared.reach.Reach.{Reach}
 use Rattle.basin.specs.declared.state.Basin.{Basin}
 use Rattle.basin.specs.declared.file.Loaded.{Loaded}
 use Rattle.basin.specs.Reach.{reachWordCount, blankReach}
-use Rattle.basin.specs.State.{mostN, mostM, subAt, reachAt}
+use Rattle.basin.specs.State.{mostSubs, mostReaches, subAt, reachAt}
 use Rattle.basin.specs.File.{fileN, fileM, subStart, reachStart, fileSub, fileReach, fileBasin, subWords, reachesWords, fileWords}
 use Rattle.basin.specs.File.{refusedLoad, acceptedLoad, loadWords, loadLength, loadCounts, loadCall}
 use Rattle.basin.proofs.reach.ReachLaws.{ReachWords, reach-words}
@@ -29,8 +29,8 @@ use Rattle.basin.proofs.file.FileLaws.{in-subs, in-reaches}
 
 pub record FileIn (f : List ℕ) : Type 0 where
   pub n-least : 1 ≤ fileN f
-  pub n-most : fileN f ≤ mostN
-  pub m-most : fileM f ≤ mostM
+  pub n-most : fileN f ≤ mostSubs
+  pub m-most : fileM f ≤ mostReaches
   pub bytes : length f ≡ 4 * (2 + wordCount * fileN f + reachWordCount * fileM f)
   pub in-words : Within (fileWords f)
 
@@ -57,12 +57,12 @@ module _ (f : List ℕ) where
   counts-passed : loadCounts f .number ≡ 0 → FileIn f
   unfolding loadCounts
   counts-passed e =
-      let m-in = within 0 (fileM f) mostM in
-      let t = passed-test (within 1 (fileN f) mostN) (cond m-in (loadLength f) (refusedLoad 2 1)) (refusedLoad 2 0) (λ z. omega arith) e in
+      let m-in = within 0 (fileM f) mostReaches in
+      let t = passed-test (within 1 (fileN f) mostSubs) (cond m-in (loadLength f) (refusedLoad 2 1)) (refusedLoad 2 0) (λ z. omega arith) e in
       let u = passed-test m-in (loadLength f) (refusedLoad 2 1) (λ z. omega arith) (t .1) in
-      let n-in = within-limits 1 (fileN f) mostN (t .0) in
+      let n-in = within-limits 1 (fileN f) mostSubs (t .0) in
       let r = length-passed (u .1) in
-      record { n-least = n-in .0; n-most = n-in .1; m-most = within-limits 0 (fileM f) mostM (u .0) .1; bytes = r .0; in-words = r .1 }
+      record { n-least = n-in .0; n-most = n-in .1; m-most = within-limits 0 (fileM f) mostReaches (u .0) .1; bytes = r .0; in-words = r .1 }
 
   -- accepted exactly inside the limits
   pub load-limits : loadCall f .number ≡ 0 → FileIn f
@@ -78,8 +78,8 @@ module _ (f : List ℕ) where
   load-accepts h =
       rw (
         le-ltb (length f) 8 (omega arith),
-        within-in 1 (fileN f) mostN (h .n-least) (h .n-most),
-        within-in 0 (fileM f) mostM (omega arith) (h .m-most),
+        within-in 1 (fileN f) mostSubs (h .n-least) (h .n-most),
+        within-in 0 (fileM f) mostReaches (omega arith) (h .m-most),
         eq-eqb (length f) (4 * (2 + wordCount * fileN f + reachWordCount * fileM f)) (h .bytes),
         eq-eqb (firstOut (fileWords f)) (length (fileWords f)) (first-all (fileWords f) (h .in-words)),
       )
@@ -106,29 +106,29 @@ abbrev pub reachWordsOf : Reach → List ℕ
 reachWordsOf r = r .c0 ∷ r .c1 ∷ r .next ∷ []
 
 module _ (f : List ℕ) where
-  pub file-subs-length : length (fileBasin f .subs) ≡ mostN
+  pub file-subs-length : length (fileBasin f .subs) ≡ mostSubs
   unfolding fileBasin
-  file-subs-length = table-length (fileSub f) blankSub mostN (fileN f)
+  file-subs-length = table-length (fileSub f) blankSub mostSubs (fileN f)
 
-  pub file-reaches-length : length (fileBasin f .reaches) ≡ mostM
+  pub file-reaches-length : length (fileBasin f .reaches) ≡ mostReaches
   unfolding fileBasin
-  file-reaches-length = table-length (fileReach f (fileN f)) blankReach mostM (fileM f)
+  file-reaches-length = table-length (fileReach f (fileN f)) blankReach mostReaches (fileM f)
 
-  pub file-sub : (i : ℕ) → i < fileN f → fileN f ≤ mostN → subAt (fileBasin f) i ≡ fileSub f i
+  pub file-sub : (i : ℕ) → i < fileN f → fileN f ≤ mostSubs → subAt (fileBasin f) i ≡ fileSub f i
   unfolding fileBasin
-  file-sub i l h = table-in (fileSub f) blankSub mostN (fileN f) i (omega arith) l
+  file-sub i l h = table-in (fileSub f) blankSub mostSubs (fileN f) i (omega arith) l
 
   pub file-sub-past : (i : ℕ) → fileN f ≤ i → subAt (fileBasin f) i ≡ blankSub
   unfolding fileBasin
-  file-sub-past i l = table-past (fileSub f) blankSub mostN (fileN f) i l
+  file-sub-past i l = table-past (fileSub f) blankSub mostSubs (fileN f) i l
 
-  pub file-reach : (j : ℕ) → j < fileM f → fileM f ≤ mostM → reachAt (fileBasin f) j ≡ fileReach f (fileN f) j
+  pub file-reach : (j : ℕ) → j < fileM f → fileM f ≤ mostReaches → reachAt (fileBasin f) j ≡ fileReach f (fileN f) j
   unfolding fileBasin
-  file-reach j l h = table-in (fileReach f (fileN f)) blankReach mostM (fileM f) j (omega arith) l
+  file-reach j l h = table-in (fileReach f (fileN f)) blankReach mostReaches (fileM f) j (omega arith) l
 
   pub file-reach-past : (j : ℕ) → fileM f ≤ j → reachAt (fileBasin f) j ≡ blankReach
   unfolding fileBasin
-  file-reach-past j l = table-past (fileReach f (fileN f)) blankReach mostM (fileM f) j l
+  file-reach-past j l = table-past (fileReach f (fileN f)) blankReach mostReaches (fileM f) j l
 
   -- "Lag lines, CS stores and reaches start empty"
   pub file-sub-empty : (i : ℕ) → (fileSub f i .line .waiting ≡ replicate 15 0) × (fileSub f i .channel ≡ 0)
@@ -146,11 +146,11 @@ module _ (f : List ℕ) where
   abbrev pub reachValues : ℕ → List ℕ
   reachValues j = table (λ k. wordAt f (reachStart (fileN f) j + k)) 0 reachWordCount reachWordCount
 
-  pub words-held : (i : ℕ) → i < fileN f → fileN f ≤ mostN → wordsOf (subAt (fileBasin f) i) ≡ subValues i
+  pub words-held : (i : ℕ) → i < fileN f → fileN f ≤ mostSubs → wordsOf (subAt (fileBasin f) i) ≡ subValues i
   unfolding fileSub
   words-held i l h = rw (file-sub i l h) (words-read-back (subValues i) (table-length (λ k. wordAt f (subStart i + k)) 0 wordCount wordCount))
 
-  pub reach-words-held : (j : ℕ) → j < fileM f → fileM f ≤ mostM → reachWordsOf (reachAt (fileBasin f) j) ≡ reachValues j
+  pub reach-words-held : (j : ℕ) → j < fileM f → fileM f ≤ mostReaches → reachWordsOf (reachAt (fileBasin f) j) ≡ reachValues j
   unfolding fileReach filled
   reach-words-held j l h = rw (file-reach j l h, add-zero (reachStart (fileN f) j))
 

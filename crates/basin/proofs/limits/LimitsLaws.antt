@@ -14,7 +14,7 @@ use Rattle.subbasin.specs.Record.{recordIn, isBlank, blankSub}
 use Rattle.subbasin.proofs.record.RecordLaws.{RecordIn, record-limits, record-in}
 use Rattle.basin.specs.declared.state.Basin.{Basin}
 use Rattle.basin.specs.Reach.{reachIn, isBlankReach}
-use Rattle.basin.specs.State.{mostN, mostM, subAt, reachAt}
+use Rattle.basin.specs.State.{mostSubs, mostReaches, subAt, reachAt}
 use Rattle.basin.specs.Limits.{countsIn, subsUsed, subsBlank, reachesUsed, reachesBlank, othersIn, basinIn}
 use Rattle.basin.proofs.reach.ReachLaws.{ReachIn, reach-limits, reach-in}
 
@@ -22,28 +22,28 @@ use Rattle.basin.proofs.reach.ReachLaws.{ReachIn, reach-limits, reach-i
 
 pub record CountsIn (n m : ℕ) : Type 0 where
   pub n-least : 1 ≤ n
-  pub n-most : n ≤ mostN
-  pub m-most : m ≤ mostM
+  pub n-most : n ≤ mostSubs
+  pub m-most : m ≤ mostReaches
 
 module _ (n m : ℕ) where
   pub counts-limits : countsIn n m ≡ true → CountsIn n m
   unfolding countsIn
   counts-limits t =
-      let p = parts (within 1 n mostN) (within 0 m mostM) t in
-      let l = within-limits 1 n mostN (p .0) in
-      record { n-least = l .0; n-most = l .1; m-most = within-limits 0 m mostM (p .1) .1 }
+      let p = parts (within 1 n mostSubs) (within 0 m mostReaches) t in
+      let l = within-limits 1 n mostSubs (p .0) in
+      record { n-least = l .0; n-most = l .1; m-most = within-limits 0 m mostReaches (p .1) .1 }
 
   pub counts-in : CountsIn n m → countsIn n m ≡ true
   unfolding countsIn
-  counts-in h = both (within-in 1 n mostN (h .n-least) (h .n-most)) (within-in 0 m mostM (omega arith) (h .m-most))
+  counts-in h = both (within-in 1 n mostSubs (h .n-least) (h .n-most)) (within-in 0 m mostReaches (omega arith) (h .m-most))
 
-  pub n-outside : (1 ≤ n → n ≤ mostN → ⊥) → false ≡ countsIn n m
+  pub n-outside : (1 ≤ n → n ≤ mostSubs → ⊥) → false ≡ countsIn n m
   unfolding countsIn
-  n-outside h = sym (rw (within-not 1 n mostN h))
+  n-outside h = sym (rw (within-not 1 n mostSubs h))
 
-  pub m-outside : mostM < m → false ≡ countsIn n m
+  pub m-outside : mostReaches < m → false ≡ countsIn n m
   unfolding countsIn
-  m-outside h = sym (rw (within-not 0 m mostM (λ _ l. omega arith), and-false))
+  m-outside h = sym (rw (within-not 0 m mostReaches (λ _ l. omega arith), and-false))
 
 -- ---- the records
 
@@ -66,21 +66,21 @@ blank-read (s ∷ l) (suc i) = blank-read l i
 -- all is inside its limits but the sub-basins in use
 pub record OthersIn (b : Basin) : Type 0 where
   pub n-least : 1 ≤ b .n
-  pub n-most : b .n ≤ mostN
-  pub m-most : b .m ≤ mostM
-  pub blank-subs : (i : ℕ) → b .n ≤ i → i < mostN → isBlank (subAt b i) ≡ true
+  pub n-most : b .n ≤ mostSubs
+  pub m-most : b .m ≤ mostReaches
+  pub blank-subs : (i : ℕ) → b .n ≤ i → i < mostSubs → isBlank (subAt b i) ≡ true
   pub used-reaches : (j : ℕ) → j < b .m → ReachIn (b .m) (suc j) (reachAt b j)
-  pub blank-reaches : (j : ℕ) → b .m ≤ j → j < mostM → isBlankReach (reachAt b j) ≡ true
+  pub blank-reaches : (j : ℕ) → b .m ≤ j → j < mostReaches → isBlankReach (reachAt b j) ≡ true
 
 -- a basin that 9 allows
 pub record BasinIn (b : Basin) : Type 0 where
   pub n-least : 1 ≤ b .n
-  pub n-most : b .n ≤ mostN
-  pub m-most : b .m ≤ mostM
+  pub n-most : b .n ≤ mostSubs
+  pub m-most : b .m ≤ mostReaches
   pub used-subs : (i : ℕ) → i < b .n → RecordIn (b .m) (subAt b i)
-  pub blank-subs : (i : ℕ) → b .n ≤ i → i < mostN → isBlank (subAt b i) ≡ true
+  pub blank-subs : (i : ℕ) → b .n ≤ i → i < mostSubs → isBlank (subAt b i) ≡ true
   pub used-reaches : (j : ℕ) → j < b .m → ReachIn (b .m) (suc j) (reachAt b j)
-  pub blank-reaches : (j : ℕ) → b .m ≤ j → j < mostM → isBlankReach (reachAt b j) ≡ true
+  pub blank-reaches : (j : ℕ) → b .m ≤ j → j < mostReaches → isBlankReach (reachAt b j) ≡ true
 
 module _ (b : Basin) where
   pub others-limits : othersIn b ≡ true → OthersIn b
@@ -97,12 +97,12 @@ module _ (b : Basin) where
         blank-subs =
             λ i l h.
             let back : b .n + (i - b .n) ≡ i = omega arith in
-            rw back at (every-at (λ k. isBlank (subAt b (b .n + k))) (mostN - b .n) (r .1) (i - b .n) (omega arith));
+            rw back at (every-at (λ k. isBlank (subAt b (b .n + k))) (mostSubs - b .n) (r .1) (i - b .n) (omega arith));
         used-reaches = λ j l. reach-limits (b .m) (suc j) (reachAt b j) (every-at (λ k. reachIn (b .m) (suc k) (reachAt b k)) (b .m) (q .1) j l);
         blank-reaches =
             λ j l h.
             let back : b .m + (j - b .m) ≡ j = omega arith in
-            rw back at (every-at (λ k. isBlankReach (reachAt b (b .m + k))) (mostM - b .m) (p .1) (j - b .m) (omega arith));
+            rw back at (every-at (λ k. isBlankReach (reachAt b (b .m + k))) (mostReaches - b .m) (p .1) (j - b .m) (omega arith));
       }
 
   others-in : OthersIn b → othersIn b ≡ true
@@ -112,9 +112,9 @@ module _ (b : Basin) where
       (both
       (both
       (counts-in (b .n) (b .m) (record { n-least = h .n-least; n-most = h .n-most; m-most = h .m-most }))
-      (every-in (λ k. isBlank (subAt b (b .n + k))) (mostN - b .n) (λ k l. h .blank-subs (b .n + k) (omega arith) (omega arith))))
+      (every-in (λ k. isBlank (subAt b (b .n + k))) (mostSubs - b .n) (λ k l. h .blank-subs (b .n + k) (omega arith) (omega arith))))
       (every-in (λ j. reachIn (b .m) (suc j) (reachAt b j)) (b .m) (λ j l. reach-in (b .m) (suc j) (reachAt b j) (h .used-reaches j l))))
-      (every-in (λ k. isBlankReach (reachAt b (b .m + k))) (mostM - b .m) (λ k l. h .blank-reaches (b .m + k) (omega arith) (omega arith)))
+      (every-in (λ k. isBlankReach (reachAt b (b .m + k))) (mostReaches - b .m) (λ k l. h .blank-reaches (b .m + k) (omega arith) (omega arith)))
 
   -- the sub-basins in use decide of a basin whose others are inside
   pub basin-used : othersIn b ≡ true → basinIn b ≡ subsUsed (b .m) (b .n) (b .subs)

@@ -25,11 +25,11 @@ pub record ReachWords (m j : ℕ) (r : Reach) : Type 0 where
   pub next-most : r .next ≤ m
 
 -- next is 0 or above the reach's own number
-pub after-limits : {next : ℕ} (j : ℕ) → (next ≡ 0 → ⊥) → cond (eqb next 0) 0 (suc j) ≤ next → j < next
-after-limits {next} j n h = rw (ne-eqb next 0 n) at h
+pub next-limits : {next : ℕ} (j : ℕ) → (next ≡ 0 → ⊥) → cond (eqb next 0) 0 (suc j) ≤ next → j < next
+next-limits {next} j n h = rw (ne-eqb next 0 n) at h
 
-pub after-in : (next j : ℕ) → ((next ≡ 0 → ⊥) → j < next) → cond (eqb next 0) 0 (suc j) ≤ next
-after-in next j h = go (eqb next 0) refl
+pub next-in : (next j : ℕ) → ((next ≡ 0 → ⊥) → j < next) → cond (eqb next 0) 0 (suc j) ≤ next
+next-in next j h = go (eqb next 0) refl
   where
     go : (b : Bool) → eqb next 0 ≡ b → cond b 0 (suc j) ≤ next
     go true e = omega arith
@@ -42,13 +42,13 @@ module _ (m j : ℕ) (r : Reach) where
         c0-most = w .1;
         shares-least = w .2 .0;
         shares-most = w .2 .1;
-        next-after = λ n. after-limits j n (w .2 .2 .0);
+        next-after = λ n. next-limits j n (w .2 .2 .0);
         next-most = w .2 .2 .1;
       }
 
   pub words-reach : ReachWords m j r → Within (reachWords m j r)
   words-reach w =
-      (omega arith, w .c0-most, (w .shares-least, w .shares-most, (after-in (r .next) j (w .next-after), w .next-most, tt)))
+      (omega arith, w .c0-most, (w .shares-least, w .shares-most, (next-in (r .next) j (w .next-after), w .next-most, tt)))
 
 -- ---- a reach that 9 allows
 

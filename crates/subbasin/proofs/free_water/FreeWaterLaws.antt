@@ -62,9 +62,9 @@ pub record Parts (p : Parameters) (g r : ℕ) (pw : Parted) : Type 0 where
 pub drains-most : (p : Parameters) (kept : ℕ) → FreeIn p → p .ki * kept / one + p .kg * kept / one ≤ kept
 drains-most p kept free = omega (arith, mul-le-mul-right kept (free .drains))
 
-pub parts : (p : Parameters) (g pe r : ℕ) → FreeIn p → g ≤ p .sm → r ≤ pe → Parts p g r (parted p g pe r)
+pub parted-parts : (p : Parameters) (g pe r : ℕ) → FreeIn p → g ≤ p .sm → r ≤ pe → Parts p g r (parted p g pe r)
 unfolding parted
-parts p g pe r free hg hr =
+parted-parts p g pe r free hg hr =
     let k = keeps p g pe r hg hr in
     let d = drains-most p (keep p g pe r) free in
     omega arith

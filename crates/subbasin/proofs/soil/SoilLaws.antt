@@ -17,7 +17,7 @@ use Rattle.subbasin.specs.declared.soil.Layers.{Layers}
 use Rattle.subbasin.specs.declared.soil.Evaporated.{Evaporated}
 use Rattle.subbasin.specs.declared.soil.Runoff.{Runoff}
 use Rattle.subbasin.specs.Workers.{SoilIn, LayersIn}
-use Rattle.subbasin.specs.Soil.{tension, ep, fallen, deeper, evaporated, wm, mm, rb, gain, filled, runoff}
+use Rattle.subbasin.specs.Soil.{tension, ep, fallen, deeper, evaporated, wm, mm, rb, gain, refilled, runoff}
 use Rattle.subbasin.specs.Step.{layersOf}
 use Rattle.common.proofs.Limits.{by-test}
 use Rattle.common.proofs.Limits.{Within}
@@ -114,9 +114,9 @@ pub record Fills (p : Parameters) (w : Layers) (gained : ℕ) (after : Layers) :
   pub holds-all : tension after ≡ tension w + gained
   pub inside : LayersIn p after
 
-pub filled-fills : (p : Parameters) (w : Layers) (gained : ℕ) → LayersIn p w → tension w + gained ≤ wm p → Fills p w gained (filled p w gained)
-unfolding filled
-filled-fills p w gained h room = omega arith
+pub refilled-fills : (p : Parameters) (w : Layers) (gained : ℕ) → LayersIn p w → tension w + gained ≤ wm p → Fills p w gained (refilled p w gained)
+unfolding refilled
+refilled-fills p w gained h room = omega arith
 
 -- Runoff and what the layers take are PE; the layers stay inside.
 pub record Runs (p : Parameters) (w : Layers) (pe : ℕ) (ro : Runoff) : Type 0 where
@@ -134,5 +134,5 @@ runs p w pe soil fits =
     let x : ℕ = pe - rb p pe in
     let rb-le : rb p pe ≤ pe = rb-most p pe soil in
     let gains : Gains p (tension w) x (gain p (tension w) pe x) = gain-in p (tension w) pe x (omega arith) in
-    let fills : Fills p w (gain p (tension w) pe x) (filled p w (gain p (tension w) pe x)) = filled-fills p w (gain p (tension w) pe x) fits (omega arith) in
+    let fills : Fills p w (gain p (tension w) pe x) (refilled p w (gain p (tension w) pe x)) = refilled-fills p w (gain p (tension w) pe x) fits (omega arith) in
     by-test (Runs p w pe) (ltb 0 pe) (λ _. omega arith) (λ t. let z : pe ≤ 0 = ltb-false 0 pe t in omega arith)

@@ -15,7 +15,7 @@ use Rattle.subbasin.specs.Lag.{leaving, entered}
 use Rattle.subbasin.specs.Step.{layersOf, let-go, holds, stepped}
 use Rattle.common.proofs.Limits.{Within}
 use Rattle.subbasin.proofs.soil.SoilLaws.{soil-in, layers-in, Evaporates, evaporation, evaporation-in, ep-most, Runs, runs}
-use Rattle.subbasin.proofs.free_water.FreeWaterLaws.{free-in, g-in, Parts, parts}
+use Rattle.subbasin.proofs.free_water.FreeWaterLaws.{free-in, g-in, Parts, parted-parts}
 
 -- Rain and the soil's water are evapotranspiration, runoff (RB + RS + RI + RG) and the soil's water after; depths in µm.
 pub record Depths (s : SubBasin) (w : Weather) (st : Stepped) : Type 0 where
@@ -44,7 +44,7 @@ depths m v s weather h k =
     let fits : LayersIn p w = layers-in m v s h in
     let a : Evaporates w rain e ev = evaporation p w soil fits rain e in
     let b : Runs p (ev .layers) (ev .pe) ro = runs p (ev .layers) (ev .pe) soil (evaporation-in p w soil fits rain e) in
-    let c : Parts p (s .contents .g) (ro .r) pw = parts p (s .contents .g) (ev .pe) (ro .r) free (g-in m v s h) (omega arith) in
+    let c : Parts p (s .contents .g) (ro .r) pw = parted-parts p (s .contents .g) (ev .pe) (ro .r) free (g-in m v s h) (omega arith) in
     omega (arith, ep-most p soil (weather .pan) (k .pan-most))
 
 -- T, the amount that enters the lag line, from the parts of the step's answer

@@ -5,16 +5,16 @@ use native.Mathlib.Omega.{arith}
 use lib.ListN.{getD}
 use Rattle.common.proofs.Loops.{Trying, try-begin, try-turn, try-stop, try-end}
 use Rattle.basin.specs.Reach.{blankReach, isBlankReach}
-use Rattle.basin.specs.State.{mostM}
+use Rattle.basin.specs.State.{mostReaches}
 use Rattle.basin.specs.Limits.{reachesBlank}
 use Rattle.basin.proofs.limits.reaches_blank.Statement.{statement}
 use Rattle.basin.proofs.limits.reaches_blank.Tie as tie
 
 abbrev Inv-loop : tie.InvT-loop
-Inv-loop m reaches k₀ k = Trying (λ j. isBlankReach (getD reaches (m + j) blankReach)) (mostM - m) k
+Inv-loop m reaches k₀ k = Trying (λ j. isBlankReach (getD reaches (m + j) blankReach)) (mostReaches - m) k
 
 abbrev μ-loop : tie.MeasureT-loop
-μ-loop m reaches k₀ k = mostM - m - k
+μ-loop m reaches k₀ k = mostReaches - m - k
 
 loop-again : tie.Need-loop-again Inv-loop μ-loop
 loop-again c = try-turn (c .before .before .before .before .loop .inv) (omega arith) (sym (c .before .is-blank .ensures) ∙ c .if1 .taken)

@@ -5,17 +5,17 @@ use native.Mathlib.Omega.{arith}
 use lib.ListN.{getD}
 use Rattle.common.proofs.Loops.{Trying, try-begin, try-turn, try-stop, try-end}
 use Rattle.subbasin.specs.Record.{blankSub, isBlank}
-use Rattle.basin.specs.State.{mostN}
+use Rattle.basin.specs.State.{mostSubs}
 use Rattle.basin.specs.Limits.{subsBlank}
 use Rattle.basin.proofs.limits.LimitsLaws.{blank-read}
 use Rattle.basin.proofs.limits.subs_blank.Statement.{statement}
 use Rattle.basin.proofs.limits.subs_blank.Tie as tie
 
 abbrev Inv-loop : tie.InvT-loop
-Inv-loop n subs k₀ k = Trying (λ i. isBlank (getD subs (n + i) blankSub)) (mostN - n) k
+Inv-loop n subs k₀ k = Trying (λ i. isBlank (getD subs (n + i) blankSub)) (mostSubs - n) k
 
 abbrev μ-loop : tie.MeasureT-loop
-μ-loop n subs k₀ k = mostN - n - k
+μ-loop n subs k₀ k = mostSubs - n - k
 
 loop-again : tie.Need-loop-again Inv-loop μ-loop
 loop-again c =

@@ -3,14 +3,14 @@ use mathlib.Core.Path.{_≡_}
 use Prim.Native.Nat.{ℕ, _+_, _-_, min}
 use Rattle.subbasin.specs.declared.record.Parameters.{Parameters}
 use Rattle.subbasin.specs.declared.soil.Layers.{Layers}
-use Rattle.subbasin.specs.Soil.{filled}
+use Rattle.subbasin.specs.Soil.{refilled}
 use borrow.Author.Needs.{needs}
 use Rattle.subbasin.proofs.soil.fill.Statement.{statement}
 use Rattle.subbasin.proofs.soil.fill.Tie as tie
 
 layered : (p : Parameters) (w : Layers) (gained : ℕ) {u l : ℕ} → u ≡ min gained (p .um - w .wu) → l ≡ min (gained - u) (p .lm - w .wl)
-    → _≡_ {A = Layers} (record { wu = w .wu + u; wl = w .wl + l; wd = w .wd + (gained - u - l) }) (filled p w gained)
-unfolding filled
+    → _≡_ {A = Layers} (record { wu = w .wu + u; wl = w .wl + l; wd = w .wd + (gained - u - l) }) (refilled p w gained)
+unfolding refilled
 layered p w gained e f = rw (f, e)
 
 returns : tie.Need-returns

@@ -9,7 +9,7 @@ use Rattle.subbasin.specs.declared.record.Parameters.{Parameters}
 use Rattle.subbasin.specs.declared.soil.Layers.{Layers}
 use Rattle.subbasin.specs.declared.soil.Runoff.{Runoff}
 use Rattle.subbasin.specs.Workers.{SoilIn, LayersIn}
-use Rattle.subbasin.specs.Soil.{tension, rb, gain, filled, runoff}
+use Rattle.subbasin.specs.Soil.{tension, rb, gain, refilled, runoff}
 use Rattle.subbasin.proofs.soil.SoilLaws.{Gains, rb-most, gain-in}
 use borrow.Author.Needs.{needs}
 use Rattle.subbasin.proofs.soil.run_off.Statement.{statement}
@@ -28,7 +28,7 @@ module _ (p : Parameters) (w : Layers) (pe : ℕ) {gained : ℕ} (fits : LayersI
   gain-of-x : Gains p (tension w) (pe - p .im * pe / one) gained
   gain-of-x = rw gains (gain-in p (tension w) pe (pe - p .im * pe / one) (omega arith))
 
-  some-runoff : (pe ≡ 0 → ⊥) → {after : Layers} → after ≡ filled p w gained
+  some-runoff : (pe ≡ 0 → ⊥) → {after : Layers} → after ≡ refilled p w gained
       → _≡_ {A = Runoff} (record { rb = p .im * pe / one; r = pe - p .im * pe / one - gained; layers = after }) (runoff p w pe)
   unfolding runoff rb
   some-runoff n e = rw (lt-ltb 0 pe (omega arith), e, gains)

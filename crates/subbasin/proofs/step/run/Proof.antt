@@ -17,7 +17,7 @@ use Rattle.subbasin.specs.FreeWater.{parted}
 use Rattle.subbasin.specs.Step.{layersOf, with-parted, with-runoff, with-evaporated, stepped}
 use Rattle.subbasin.proofs.record.RecordLaws.{RecordIn, record-limits}
 use Rattle.subbasin.proofs.soil.SoilLaws.{soil-in, layers-in, ep-most, evaporation, evaporation-in, runs}
-use Rattle.subbasin.proofs.free_water.FreeWaterLaws.{Parts, free-in, g-in, parts}
+use Rattle.subbasin.proofs.free_water.FreeWaterLaws.{Parts, free-in, g-in, parted-parts}
 use Rattle.subbasin.proofs.step.run.Statement.{statement}
 use Rattle.subbasin.proofs.step.run.Tie as tie
 
@@ -54,7 +54,7 @@ module _ (s : SubBasin) (fits : RecordIn (s .fixed .reach) s) where
 
       module _ {pw : Parted} (pw-is : pw ≡ parted (s .fixed) (s .contents .g) (ev .pe) (ro .r)) where
         parts-in : Parts (s .fixed) (s .contents .g) (ro .r) pw
-        parts-in = rw pw-is (parts (s .fixed) (s .contents .g) (ev .pe) (ro .r) free free-water-in (omega (arith, runoff-le)))
+        parts-in = rw pw-is (parted-parts (s .fixed) (s .contents .g) (ev .pe) (ro .r) free free-water-in (omega (arith, runoff-le)))
 
         direct-le : WeatherIn w → pw .rs + ro .rb ≤ 1100000
         direct-le h = omega (arith, parts-in .balance, runoff-le, pe-le, free-water-in, free .sm-most)
