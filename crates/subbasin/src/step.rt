@@ -2,6 +2,7 @@
 ghost use mathlib.Core.Path.{_≡_};
 ghost use mathlib.Core.Bool.{true};
 ghost use Prim.Native.Nat.{_+_, _≤_};
+ghost use Rattle.common.specs.Shares.{one};
 ghost use Rattle.common.specs.Weather.{WeatherIn};
 ghost use Rattle.subbasin.specs.Record.{recordIn};
 ghost use Rattle.subbasin.specs.Step.{slowStore, with-parted, returned, stepped, subCall};
@@ -138,7 +139,7 @@ fn route(s: SubBasin, ev: Evaporated, ro: Runoff, pw: Parted) -> Stepped
 
 // A store that keeps the same share, its recession, of inflow and content.
 fn slow(recession: u64, content: u64) -> Store
-    requires { ⌜ recession ≤ 65536 ⌝ }
+    requires { ⌜ recession ≤ one ⌝ }
     ensures { λ r. ⌜ r ≡ slowStore recession content ⌝ }
 {
     Store {
