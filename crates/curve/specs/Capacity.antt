@@ -4,7 +4,7 @@ use Prim.Native.Nat.{ℕ, zero, suc, _+_, _-_, _*_, _/_, _%_, min}
 use lib.Dec.{leb, eqb}
 use Rattle.common.specs.Shares.{one}
 use Rattle.common.specs.Limits.{within}
-use Rattle.common.specs.Loops.{greatest}
+use Rattle.common.specs.Loops.{run, greatest}
 use Rattle.curve.specs.declared.capacity.Answer.{Answer}
 
 -- "greatest whole r with r × r ≤ t × 65,536"; such an r is at most t × 65,536 itself
@@ -17,8 +17,7 @@ by x r = x * r / one
 
 -- "Begin with 65,536. Multiply by t and divide by 65,536", k times
 unfoldable pub whole : ℕ → ℕ → ℕ
-whole t zero = one
-whole t (suc k) = by (whole t k) t
+whole t k = run (λ i x. by x t) k one
 
 -- "where e mod 16 holds the bit b, multiply by r and divide by 65,536"
 unfoldable pub part : ℕ → ℕ → ℕ → ℕ → ℕ

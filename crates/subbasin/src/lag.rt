@@ -75,11 +75,11 @@ fn cut(amounts: [u64; 15], from: u64) -> [u64; 15]
     requires { ⌜ from ≤ 15 ⌝ }
     ensures { λ r. ⌜ r ≡ take from amounts ++ replicate (15 - from) 0 ⌝ }
 {
-    let mut next = amounts;
-    let mut i = from;
-    while i < 15 {
+    let mut next = [0u64; 15];
+    let mut i: u64 = 0;
+    while i < from {
         let at = i as usize;
-        next[at] = 0;
+        next[at] = amounts[at];
         i += 1;
     }
     next

@@ -7,7 +7,7 @@ use native.Mathlib.Omega.{arith}
 use lib.Dec.{leb}
 use borrow.Author.Tests.{le-leb, leb-true}
 use Rattle.common.specs.Shares.{one}
-use Rattle.common.specs.Loops.{greatest}
+use Rattle.common.specs.Loops.{run, greatest}
 use Rattle.common.proofs.Greatest.{fastGreatest, greatest-fast}
 use Rattle.curve.specs.Capacity.{root, whole, part, power, shareAbove, held, ordinate, rise}
 use Rattle.curve.proofs.capacity.HeldLaws.{held-mono, held-zero}
@@ -23,7 +23,7 @@ root-fast t =
     (λ i j l _ h. le-leb (i * i) (t * one) (omega (arith, leb-true (j * j) (t * one) h, mul-le-mul {n₁ = i} {m₁ = i} {n₂ = j} {m₂ = j} l l)))
 
 unfoldable pub fastPower : ℕ → ℕ → ℕ
-unfolding fastRoot part whole
+unfolding fastRoot part whole run
 fastPower t e =
     let r1 = fastRoot t in
     let r2 = fastRoot r1 in

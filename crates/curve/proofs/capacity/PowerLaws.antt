@@ -6,6 +6,7 @@ use native.Mathlib.Nat.{le-refl, mul-le-mul}
 use native.Mathlib.Omega.{arith}
 use lib.Dec.{eqb}
 use Rattle.common.specs.Shares.{one}
+use Rattle.common.specs.Loops.{run}
 use Rattle.curve.specs.Capacity.{by, whole, part, power, leastE}
 use Rattle.curve.proofs.capacity.RootLaws.{root-mono, root-one}
 
@@ -16,7 +17,7 @@ by-mono : {x y r s : ℕ} → x ≤ y → r ≤ s → by x r ≤ by y s
 by-mono {x} {y} {r} {s} h k = omega (arith, mul-le-mul {n₁ = x} {m₁ = r} {n₂ = y} {m₂ = s} h k)
 
 whole-mono : {s t : ℕ} (k : ℕ) → s ≤ t → whole s k ≤ whole t k
-unfolding whole
+unfolding whole run
 whole-mono zero h = le-refl one
 whole-mono (suc k) h = by-mono (whole-mono k h) h
 
@@ -38,7 +39,7 @@ power-mono e h =
     (whole-mono (e / 16) h))))
 
 whole-zero : (k : ℕ) → 0 < k → whole 0 k ≡ 0
-unfolding whole
+unfolding whole run
 whole-zero zero h = omega arith
 whole-zero (suc k) h = omega arith
 
@@ -55,7 +56,7 @@ unfolding power
 power-zero e h = simp (whole-zero (e / 16) (omega arith), part-zero)
 
 whole-one : (k : ℕ) → whole one k ≡ one
-unfolding whole
+unfolding whole run
 whole-one zero = refl
 whole-one (suc k) = rw (whole-one k) refl
 
