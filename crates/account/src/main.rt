@@ -1,40 +1,20 @@
-// The program: document 01, "What the program prints". It reads basin.bin and forcing.bin in the current folder.
-mod print;
-mod run;
-
-ghost use Rattle.io.specs.Counts.{Counts};
-use basin::file;
+// The program: it reads basin.bin and forcing.bin in the current folder.
 use libc::STDOUT_FILENO;
+use program::FAILED;
+
+// Where the status goes, as a program has no exit status.
+const STATUS_FILENO: i32 = 3;
 
 fn main() {
-    // No legal basin file is as long as 4,096 bytes, so the start of a longer one is refused as the whole is.
-    let mut bytes = io::buffer();
-    let size = read_start(b"basin.bin", &mut bytes);
-    let loaded = file::load(&bytes[..size]);
-    if loaded.number != 0 {
-        let mut out = io::large_buffer();
-        let end = print::put_load(&mut out, loaded.number, loaded.place);
-        io::write_all(STDOUT_FILENO, &out[..end]);
-        return;
+    let mut ended = program::account(b"basin.bin", b"forcing.bin");
+    // Some systems tell of a failed write only when the file is closed.
+    if libc::close(STDOUT_FILENO) < 0 {
+        os::fail(b"standard output: could not be closed");
+        ended = FAILED;
     }
-    let basin = loaded.basin;
-    let fd = os::open_read(b"forcing.bin");
-    if fd < 0 {
-        return;
+    // ./account asks for it by an argument.
+    if os::arg_count() > 1 {
+        let digits = [b'0' + (ended % 10) as u8];
+        io::write_all(STATUS_FILENO, &digits);
     }
-    run::run(fd, basin);
-    libc::close(fd);
-}
-
-// Puts the start of a file into bytes, and answers how much that is: nothing of a file that can't be opened or read.
-fn read_start(path: &[u8], bytes: &mut [u8]) -> usize
-    ensures { λ r. ⌜ Counts r (now (bytes .exit)) ⌝ }
-{
-    let fd = os::open_read(path);
-    if fd < 0 {
-        return 0;
-    }
-    let size = io::read_full(fd, bytes);
-    libc::close(fd);
-    size
 }

@@ -13,8 +13,10 @@ pub struct Reach {
     pub content: u64,
 }
 
-// How many words a reach has in the file.
+// How many words a reach has in the file, and their names: record::NAME_BYTES each, blanks at the end.
 pub const WORDS: u64 = 3;
+
+pub const NAMES: [u8; 15] = *b"c0   c1   next ";
 
 // The number of a reach's first word outside its range, and WORDS where none is; j is the reach's own number, from 1.
 pub fn first_outside(r: Reach, j: u64, m: u64) -> u64

@@ -1,0 +1,87 @@
+// The program's work: document 01, "What the program prints". It reads a basin file and a forcing file and prints their lines, and what
+// keeps it from reading and printing all is said on standard error.
+mod calls;
+mod print;
+mod run;
+pub mod say;
+mod text;
+
+ghost use Rattle.io.specs.Counts.{Counts};
+use basin::file;
+use libc::STDERR_FILENO;
+
+// How a run ends: all was read and printed; the load was refused, the forcing ends inside a step, or a file could not be opened; a
+// read or a write failed on the way.
+pub const ALL: u64 = 0;
+
+pub const NOT_ALL: u64 = 1;
+
+pub const FAILED: u64 = 3;
+
+// Runs on the files of these paths, and answers how that ends.
+pub fn account(basin: &[u8], forcing: &[u8]) -> u64 {
+    // No legal basin file is as long as 4,096 bytes, so the start of a longer one is refused as the whole is.
+    let mut bytes = io::buffer();
+    let start = read_start(basin, &mut bytes);
+    let size = start.size;
+    let loaded = file::load(&bytes[..size]);
+    if loaded.number != 0 {
+        return refuse(start, &bytes[..size], loaded.number, loaded.place);
+    }
+    let basin = loaded.basin;
+    let fd = os::open_read(forcing);
+    if fd < 0 {
+        os::fail(b"forcing.bin: could not be opened");
+        return NOT_ALL;
+    }
+    let ended = run::run(fd, basin);
+    libc::close(fd);
+    ended
+}
+
+// The start of a file, and how its reading ended.
+struct Start {
+    size: usize,
+    ended: u64,
+}
+
+// Puts the start of a file into bytes: nothing of one that can't be opened or read.
+fn read_start(path: &[u8], bytes: &mut [u8]) -> Start
+    ensures { λ r. ⌜ Counts (r .size) (now (bytes .exit)) ⌝ }
+{
+    let fd = os::open_read(path);
+    if fd < 0 {
+        os::fail(b"basin.bin: could not be opened");
+        return Start {
+            size: 0,
+            ended: NOT_ALL,
+        };
+    }
+    let read = calls::read_full(fd, bytes);
+    if read.failed {
+        os::fail(b"basin.bin: could not be read");
+    }
+    libc::close(fd);
+    if read.failed {
+        return Start {
+            size: 0,
+            ended: FAILED,
+        };
+    }
+    Start {
+        size: read.count,
+        ended: ALL,
+    }
+}
+
+// Prints a refused load, and says why where its reading has not said so.
+fn refuse(start: Start, bytes: &[u8], number: u64, place: u64) -> u64 {
+    if !print::write_load(number, place) {
+        return FAILED;
+    }
+    if start.ended != ALL {
+        return start.ended;
+    }
+    say::refused_load(STDERR_FILENO, bytes, number, place);
+    NOT_ALL
+}
