@@ -15,10 +15,14 @@ struct Tally {
     accepted: u64,
     refused: u64,
     short: u64,
+    unread: u64,
 }
 
 /// Compares on the cases of the seeds first..last. At a difference it stops, and its folder stays.
 pub fn compare(account: &Path, first: u64, last: u64, out: &mut impl Write) -> io::Result<()> {
+    if first > last {
+        return Err(io::Error::other(format!("no case is from {first} to {last}")));
+    }
     let account = fs::canonicalize(account)?;
     let all = std::env::temp_dir().join(format!("account-compare-{}", std::process::id()));
     let mut tally = Tally::default();
@@ -26,48 +30,74 @@ pub fn compare(account: &Path, first: u64, last: u64, out: &mut impl Write) -> i
         let folder = all.join(seed.to_string());
         random::write(&random::case(seed), &folder)?;
         let expected = expected(&folder)?;
-        if let Err(reason) = agrees(&account, &folder, &expected)? {
-            let message = format!("case {seed}: {reason}; it stays in {}", folder.display());
+        if let Some(difference) = difference(&ran(&account, &folder)?, &expected) {
+            let message = format!("case {seed}: {difference}; it stays in {}", folder.display());
             return Err(io::Error::other(message));
         }
         fs::remove_dir_all(&folder)?;
         tally.count(&expected);
     }
-    if all.exists() {
-        fs::remove_dir(&all)?;
-    }
+    fs::remove_dir(&all)?;
     tally.print(out)
 }
 
-fn expected(folder: &Path) -> io::Result<Vec<u8>> {
-    let mut lines = Vec::new();
-    program::run_folder(folder, &mut lines)?;
-    Ok(lines)
+/// What a run leaves: the lines of standard output and of standard error, and its status.
+struct Left {
+    printed: Vec<u8>,
+    said: Vec<u8>,
+    status: String,
 }
 
-/// Whether the program prints what is expected and ends well; if not, why.
-fn agrees(account: &Path, folder: &Path, expected: &[u8]) -> io::Result<Result<(), String>> {
-    let mut command = Command::new(account);
-    let ran = command.current_dir(folder).stdin(Stdio::null()).stderr(Stdio::null()).output()?;
-    if !ran.status.success() {
-        return Ok(Err(format!("the program ended with {}", ran.status)));
-    }
-    if ran.stdout == expected {
-        return Ok(Ok(()));
+fn expected(folder: &Path) -> io::Result<Left> {
+    let mut printed = Vec::new();
+    let ended = program::run_folder(folder, &mut printed)?;
+    let said = ended.said.map(|line| line + "\n").unwrap_or_default().into_bytes();
+    Ok(Left { printed, said, status: ended.status.to_string() })
+}
+
+/// The program writes its status to descriptor 3 where it has an argument.
+fn ran(account: &Path, folder: &Path) -> io::Result<Left> {
+    let mut command = Command::new("sh");
+    command.args(["-c", "exec \"$0\" status 3> status"]).arg(account).current_dir(folder);
+    let ran = command.stdin(Stdio::null()).output()?;
+    let status = match ran.status.success() {
+        true => fs::read_to_string(folder.join("status"))?,
+        false => ran.status.to_string(),
+    };
+    Ok(Left { printed: ran.stdout, said: ran.stderr, status })
+}
+
+/// The first difference from what is expected.
+fn difference(ran: &Left, expected: &Left) -> Option<String> {
+    let lines = first_line(&ran.printed, &expected.printed);
+    let said =
+        || first_line(&ran.said, &expected.said).map(|said| format!("standard error, {said}"));
+    let status = || {
+        let differs = ran.status != expected.status;
+        differs.then(|| format!("status {}, where the model has {}", ran.status, expected.status))
+    };
+    lines.or_else(said).or_else(status)
+}
+
+/// The first line in which two texts differ.
+fn first_line(got: &[u8], wanted: &[u8]) -> Option<String> {
+    if got == wanted {
+        return None;
     }
     let lines = |bytes: &[u8]| -> Vec<String> {
         String::from_utf8_lossy(bytes).lines().map(String::from).collect()
     };
-    let [got, wanted] = [lines(&ran.stdout), lines(expected)];
+    let [got, wanted] = [lines(got), lines(wanted)];
     let same = got.iter().zip(&wanted).take_while(|(a, b)| a == b).count();
     let at = |lines: &[String]| lines.get(same).cloned().unwrap_or("no line".into());
-    Ok(Err(format!("line {}: `{}`, where the model has `{}`", same + 1, at(&got), at(&wanted))))
+    Some(format!("line {}: `{}`, where the model has `{}`", same + 1, at(&got), at(&wanted)))
 }
 
 impl Tally {
-    fn count(&mut self, lines: &[u8]) {
+    fn count(&mut self, expected: &Left) {
         self.cases += 1;
-        for line in String::from_utf8_lossy(lines).lines() {
+        self.unread += u64::from(expected.status == "3");
+        for line in String::from_utf8_lossy(&expected.printed).lines() {
             match line.split(' ').nth(1) {
                 _ if line.starts_with("load ") => self.loads_refused += 1,
                 _ if line.starts_with("short ") => self.short += 1,
@@ -78,8 +108,9 @@ impl Tally {
     }
 
     fn print(&self, out: &mut impl Write) -> io::Result<()> {
-        let Tally { cases, loads_refused, accepted, refused, short } = self;
+        let Tally { cases, loads_refused, accepted, refused, short, unread } = self;
         write!(out, "{cases} cases agree: {loads_refused} loads refused, ")?;
-        writeln!(out, "{accepted} steps accepted, {refused} refused, {short} short")
+        write!(out, "{accepted} steps accepted, {refused} refused, {short} short, ")?;
+        writeln!(out, "{unread} failed reads")
     }
 }

@@ -15,3 +15,4 @@ pub mod record;
 pub mod sample;
 pub mod store;
 pub mod subbasin;
+pub mod words;

@@ -5,13 +5,14 @@ use std::io::{self, BufWriter, Write};
 use std::process::ExitCode;
 
 const USAGE: &str = "usage:
-  model run FOLDER                   what the program must print on basin.bin and forcing.bin
+  model run FOLDER                   what the program must print and say on basin.bin and forcing.bin, and its status
   model case-a FOLDER                makes case A's files
   model sample FOLDER                makes the sample's files
   model make SEED FOLDER             makes a random case
   model compare ACCOUNT FIRST LAST   holds a built program to the model, on cases FIRST to LAST
   model bench ACCOUNT                times a built program and the model
   model bench-files FOLDER YEARS SUBBASINS
+  model program-cases FOLDER         makes the files of program_cases
   model expected                     names the test programs
   model expect NAME                  what NAME must print";
 
@@ -19,8 +20,8 @@ fn main() -> ExitCode {
     let words: Vec<String> = std::env::args().skip(1).collect();
     let words: Vec<&str> = words.iter().map(String::as_str).collect();
     let mut out = BufWriter::new(io::stdout().lock());
-    match obey(&words, &mut out).and_then(|()| out.flush()) {
-        Ok(()) => ExitCode::SUCCESS,
+    match obey(&words, &mut out).and_then(|status| out.flush().map(|()| status)) {
+        Ok(status) => ExitCode::from(status),
         Err(error) => {
             eprintln!("model: {error}");
             ExitCode::FAILURE
@@ -28,9 +29,13 @@ fn main() -> ExitCode {
     }
 }
 
-fn obey(words: &[&str], out: &mut impl Write) -> io::Result<()> {
+fn obey(words: &[&str], out: &mut impl Write) -> io::Result<u8> {
+    if let ["run", folder] = *words {
+        let ended = program::run_folder(folder.as_ref(), out)?;
+        ended.said.into_iter().for_each(|line| eprintln!("{line}"));
+        return Ok(ended.status);
+    }
     match *words {
-        ["run", folder] => program::run_folder(folder.as_ref(), out),
         ["case-a", folder] => files::case_a().write(folder.as_ref()),
         ["sample", folder] => sample::files().write(folder.as_ref()),
         ["make", seed, folder] => random::write(&random::case(number(seed)?), folder.as_ref()),
@@ -41,10 +46,12 @@ fn obey(words: &[&str], out: &mut impl Write) -> io::Result<()> {
         ["bench-files", folder, years, sub_basins] => {
             bench::files(number(years)?, number(sub_basins)?).write(folder.as_ref())
         }
+        ["program-cases", folder] => expect::program_cases::write(folder.as_ref()),
         ["expected"] => expect::names(out),
         ["expect", name] => expect::print(name, out),
         _ => Err(io::Error::other(USAGE)),
     }
+    .map(|()| 0)
 }
 
 fn number(word: &str) -> io::Result<u64> {

@@ -1,6 +1,5 @@
 // The lines that the program prints: document 01, "What the program prints". Each function puts what it is named after at a place
 // of the output, and answers where that ends. A line has at most 129 bytes: six numbers of at most 20 digits, and 9 besides.
-ghost use mathlib.Core.Path.{_≡_};
 ghost use Prim.Native.Nat.{_+_, _≤_, _<_, _^_};
 ghost use lib.ListN.{length};
 use crate::calls;

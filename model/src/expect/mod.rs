@@ -6,13 +6,16 @@ mod draft;
 mod draw;
 mod file_cases;
 mod forcing_cases;
+pub mod program_cases;
 mod subbasin_series;
 
 use crate::{files, program};
 use std::io::{self, Write};
 
-const NAMES: [&str; 6] =
-    ["curve_cases", "subbasin_series", "forcing_cases", "file_cases", "basin_series", "account"];
+#[rustfmt::skip]
+const NAMES: [&str; 7] = [
+    "curve_cases", "subbasin_series", "forcing_cases", "file_cases", "basin_series", "program_cases", "account",
+];
 
 pub fn names(out: &mut impl Write) -> io::Result<()> {
     NAMES.iter().try_for_each(|name| writeln!(out, "{name}"))
@@ -25,9 +28,10 @@ pub fn print(name: &str, out: &mut impl Write) -> io::Result<()> {
         "forcing_cases" => forcing_cases::print(out),
         "file_cases" => file_cases::print(out),
         "basin_series" => basin_series::print(out),
+        "program_cases" => program_cases::print(out),
         "account" => {
             let files = files::case_a();
-            program::run(&files.basin, &files.forcing[..], out)
+            program::run(&files.basin, &files.forcing[..], out).map(|_| ())
         }
         _ => Err(io::Error::other(format!("no test program is called {name}"))),
     }
