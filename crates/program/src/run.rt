@@ -44,8 +44,7 @@ pub fn run(fd: i32, basin: Basin) -> u64
             break;
         }
         let end = kept + read.count;
-        let before = given;
-        let taken = take_steps(&input[..end], before, n, done);
+        let taken = take_steps(&input[..end], given, n, done);
         if !taken.printed {
             return FAILED;
         }

@@ -1,6 +1,7 @@
 // What is said on standard error, a line each, where not all could be read and printed.
 ghost use Prim.Native.Nat.{_+_, _≤_, _<_, _^_};
 ghost use lib.ListN.{length};
+use crate::calls;
 use crate::text;
 use basin::reach;
 use common::bytes::word;
@@ -11,7 +12,7 @@ const SUB_WORDS: u64 = record::WORDS as u64;
 // A load of bytes that was refused with number and place.
 pub fn refused_load(fd: i32, bytes: &[u8], number: u64, place: u64) {
     if number == 1 {
-        io::write_all(fd, b"basin.bin: has fewer than 8 bytes\n");
+        calls::write_full(fd, b"basin.bin: has fewer than 8 bytes\n");
         return;
     }
     let n = word(bytes, 0);
@@ -33,7 +34,7 @@ fn wrong_length(fd: i32, n: u64, m: u64)
     let e4 = text::put(&mut out, e3, b" and M = ");
     let e5 = text::put_number(&mut out, e4, m);
     let end = text::put(&mut out, e5, b" ask for\n");
-    io::write_all(fd, &out[..end]);
+    calls::write_full(fd, &out[..end]);
 }
 
 fn outside(fd: i32, place: u64, n: u64)
@@ -45,7 +46,7 @@ fn outside(fd: i32, place: u64, n: u64)
     let e2 = text::put(&mut out, e1, b" (");
     let e3 = put_word(&mut out, e2, place, n);
     let end = text::put(&mut out, e3, b") is outside its range\n");
-    io::write_all(fd, &out[..end]);
+    calls::write_full(fd, &out[..end]);
 }
 
 // What a word of the file is: `M`, or `LM of sub-basin 1`.
@@ -83,7 +84,7 @@ pub fn short(fd: i32, count: u64, size: u64, step: u64) {
     let e4 = text::put(&mut out, e3, b" of its ");
     let e5 = text::put_number(&mut out, e4, size);
     let end = text::put(&mut out, e5, b" bytes\n");
-    io::write_all(fd, &out[..end]);
+    calls::write_full(fd, &out[..end]);
 }
 
 // A read of the forcing that failed when so many steps had been taken.
