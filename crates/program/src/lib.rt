@@ -76,12 +76,15 @@ fn read_start(path: &[u8], bytes: &mut [u8]) -> Start
 
 // Prints a refused load, and says why where its reading has not said so.
 fn refuse(start: Start, bytes: &[u8], number: u64, place: u64) -> u64 {
-    if !print::write_load(number, place) {
+    let printed = print::write_load(number, place);
+    if start.ended == ALL {
+        say::refused_load(STDERR_FILENO, bytes, number, place);
+    }
+    if !printed {
         return FAILED;
     }
-    if start.ended != ALL {
-        return start.ended;
+    if start.ended == ALL {
+        return NOT_ALL;
     }
-    say::refused_load(STDERR_FILENO, bytes, number, place);
-    NOT_ALL
+    start.ended
 }

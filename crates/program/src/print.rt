@@ -1,5 +1,5 @@
-// The lines that the program prints: document 01, "What the program prints". Each function puts what it is named after at a place
-// of the output, and answers where that ends. A line has at most 129 bytes: six numbers of at most 20 digits, and 9 besides.
+// The lines that the program prints: document 01, "What the program prints". A line has at most 129 bytes: six numbers of at most 20
+// digits, and 9 besides.
 ghost use Prim.Native.Nat.{_+_, _≤_, _<_, _^_};
 ghost use lib.ListN.{length};
 use crate::calls;
@@ -11,10 +11,9 @@ use libc::STDOUT_FILENO;
 // Prints the line of a refused load, and answers whether it could.
 pub fn write_load(number: u64, place: u64) -> bool {
     let mut out = [0u8; 129];
-    let e0 = text::put(&mut out, 0, b"load");
-    let e1 = put_next(&mut out, e0, number);
-    let e2 = put_next(&mut out, e1, place);
-    let end = text::put(&mut out, e2, b"\n");
+    let e0 = text::put_with(&mut out, 0, b"load ", number);
+    let e1 = text::put_with(&mut out, e0, b" ", place);
+    let end = text::put(&mut out, e1, b"\n");
     write(&out[..end], 1)
 }
 
@@ -23,9 +22,8 @@ pub fn write_short(count: u64, line: u64) -> bool
     requires { ⌜ line < 2 ^ 63 ⌝ }
 {
     let mut out = [0u8; 129];
-    let e0 = text::put(&mut out, 0, b"short");
-    let e1 = put_next(&mut out, e0, count);
-    let end = text::put(&mut out, e1, b"\n");
+    let e0 = text::put_with(&mut out, 0, b"short ", count);
+    let end = text::put(&mut out, e0, b"\n");
     write(&out[..end], line)
 }
 
@@ -41,7 +39,7 @@ pub fn write(lines: &[u8], first: u64) -> bool
     true
 }
 
-// The line of step `step`, refused where number is not 0.
+// Puts the line of step `step`, refused where number is not 0, at a place of the output, and answers where it ends.
 pub fn put_step(
     out: &mut [u8],
     at: usize,
@@ -64,30 +62,19 @@ fn put_accepted(out: &mut [u8], at: usize, report: Report) -> usize
     requires { ⌜ at + 109 ≤ length (now out) ⌝ }
     ensures { λ r. ⌜ r ≤ at + 109 ⌝ }
 {
-    let e0 = text::put(out, at, b" ok");
-    let e1 = put_next(out, e0, report.rain);
-    let e2 = put_next(out, e1, report.evapotranspiration);
-    let e3 = put_next(out, e2, report.outlet);
-    let e4 = put_next(out, e3, report.content);
-    let e5 = put_next(out, e4, report.estimated);
-    text::put(out, e5, b"\n")
+    let e0 = text::put_with(out, at, b" ok ", report.rain);
+    let e1 = text::put_with(out, e0, b" ", report.evapotranspiration);
+    let e2 = text::put_with(out, e1, b" ", report.outlet);
+    let e3 = text::put_with(out, e2, b" ", report.content);
+    let e4 = text::put_with(out, e3, b" ", report.estimated);
+    text::put(out, e4, b"\n")
 }
 
 fn put_refused(out: &mut [u8], at: usize, number: u64, place: u64) -> usize
     requires { ⌜ at + 109 ≤ length (now out) ⌝ }
     ensures { λ r. ⌜ r ≤ at + 109 ⌝ }
 {
-    let e0 = text::put(out, at, b" refused");
-    let e1 = put_next(out, e0, number);
-    let e2 = put_next(out, e1, place);
-    text::put(out, e2, b"\n")
-}
-
-// A space and a number.
-fn put_next(out: &mut [u8], at: usize, n: u64) -> usize
-    requires { ⌜ at + 21 ≤ length (now out) ⌝ }
-    ensures { λ r. ⌜ r ≤ at + 21 ⌝ }
-{
-    let e0 = text::put(out, at, b" ");
-    text::put_number(out, e0, n)
+    let e0 = text::put_with(out, at, b" refused ", number);
+    let e1 = text::put_with(out, e0, b" ", place);
+    text::put(out, e1, b"\n")
 }

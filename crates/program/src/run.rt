@@ -56,10 +56,11 @@ pub fn run(fd: i32, basin: Basin) -> u64
     if kept == 0 {
         return ALL;
     }
-    if !print::write_short(kept as u64, done + 1) {
+    let printed = print::write_short(kept as u64, done + 1);
+    say::short(STDERR_FILENO, kept as u64, size as u64, done + 1);
+    if !printed {
         return FAILED;
     }
-    say::short(STDERR_FILENO, kept as u64, size as u64, done + 1);
     NOT_ALL
 }
 

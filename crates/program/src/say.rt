@@ -27,13 +27,11 @@ fn wrong_length(fd: i32, n: u64, m: u64)
     requires { ⌜ (n < 2 ^ 32) × (m < 2 ^ 32) ⌝ }
 {
     let mut out = [0u8; 160];
-    let e0 = text::put(&mut out, 0, b"basin.bin: does not have the ");
-    let e1 = text::put_number(&mut out, e0, 4 * (2 + SUB_WORDS * n + reach::WORDS * m));
-    let e2 = text::put(&mut out, e1, b" bytes that N = ");
-    let e3 = text::put_number(&mut out, e2, n);
-    let e4 = text::put(&mut out, e3, b" and M = ");
-    let e5 = text::put_number(&mut out, e4, m);
-    let end = text::put(&mut out, e5, b" ask for\n");
+    let bytes = 4 * (2 + SUB_WORDS * n + reach::WORDS * m);
+    let e0 = text::put_with(&mut out, 0, b"basin.bin: does not have the ", bytes);
+    let e1 = text::put_with(&mut out, e0, b" bytes that N = ", n);
+    let e2 = text::put_with(&mut out, e1, b" and M = ", m);
+    let end = text::put(&mut out, e2, b" ask for\n");
     calls::write_full(fd, &out[..end]);
 }
 
@@ -41,11 +39,10 @@ fn outside(fd: i32, place: u64, n: u64)
     requires { ⌜ n < 2 ^ 32 ⌝ }
 {
     let mut out = [0u8; 160];
-    let e0 = text::put(&mut out, 0, b"basin.bin: word ");
-    let e1 = text::put_number(&mut out, e0, place);
-    let e2 = text::put(&mut out, e1, b" (");
-    let e3 = put_word(&mut out, e2, place, n);
-    let end = text::put(&mut out, e3, b") is outside its range\n");
+    let e0 = text::put_with(&mut out, 0, b"basin.bin: word ", place);
+    let e1 = text::put(&mut out, e0, b" (");
+    let e2 = put_word(&mut out, e1, place, n);
+    let end = text::put(&mut out, e2, b") is outside its range\n");
     calls::write_full(fd, &out[..end]);
 }
 
@@ -65,25 +62,20 @@ fn put_word(out: &mut [u8], at: usize, place: u64, n: u64) -> usize
     let first = SUB_WORDS * n;
     if k < first {
         let e0 = text::put_name(out, at, &record::NAMES, (k % SUB_WORDS) as usize);
-        let e1 = text::put(out, e0, b" of sub-basin ");
-        return text::put_number(out, e1, k / SUB_WORDS + 1);
+        return text::put_with(out, e0, b" of sub-basin ", k / SUB_WORDS + 1);
     }
     let k = k - first;
     let e0 = text::put_name(out, at, &reach::NAMES, (k % reach::WORDS) as usize);
-    let e1 = text::put(out, e0, b" of reach ");
-    text::put_number(out, e1, k / reach::WORDS + 1)
+    text::put_with(out, e0, b" of reach ", k / reach::WORDS + 1)
 }
 
 // A part step at the end: count of the size bytes of step `step`.
 pub fn short(fd: i32, count: u64, size: u64, step: u64) {
     let mut out = [0u8; 160];
-    let e0 = text::put(&mut out, 0, b"forcing.bin: ends inside step ");
-    let e1 = text::put_number(&mut out, e0, step);
-    let e2 = text::put(&mut out, e1, b", after ");
-    let e3 = text::put_number(&mut out, e2, count);
-    let e4 = text::put(&mut out, e3, b" of its ");
-    let e5 = text::put_number(&mut out, e4, size);
-    let end = text::put(&mut out, e5, b" bytes\n");
+    let e0 = text::put_with(&mut out, 0, b"forcing.bin: ends inside step ", step);
+    let e1 = text::put_with(&mut out, e0, b", after ", count);
+    let e2 = text::put_with(&mut out, e1, b" of its ", size);
+    let end = text::put(&mut out, e2, b" bytes\n");
     calls::write_full(fd, &out[..end]);
 }
 
@@ -94,8 +86,12 @@ pub fn unread(steps: u64) {
         return;
     }
     let mut out = [0u8; 160];
-    let e0 = text::put(&mut out, 0, b"forcing.bin: could not be read after step ");
-    let end = text::put_number(&mut out, e0, steps);
+    let end = text::put_with(
+        &mut out,
+        0,
+        b"forcing.bin: could not be read after step ",
+        steps,
+    );
     os::fail(&out[..end]);
 }
 

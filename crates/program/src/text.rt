@@ -28,6 +28,16 @@ pub fn put_number(out: &mut [u8], at: usize, n: u64) -> usize
     put(out, at, &text[..k])
 }
 
+// A text, and after it a number.
+pub fn put_with(out: &mut [u8], at: usize, text: &[u8], n: u64) -> usize
+    requires { ⌜ at + length (now text) + 20 ≤ length (now out) ⌝ }
+    ensures { λ r. ⌜ r ≤ at + length (now (text .entry)) + 20 ⌝ }
+    ensures { λ r. ⌜ Counts r (now (out .exit)) ⌝ }
+{
+    let end = put(out, at, text);
+    put_number(out, end, n)
+}
+
 // How many lines end in bytes.
 pub fn lines_in(bytes: &[u8]) -> u64
     ensures { λ r. ⌜ r ≤ length (now (bytes .entry)) ⌝ }

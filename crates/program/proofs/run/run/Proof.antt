@@ -80,7 +80,7 @@ pub run-spec : {M : Type 1} → statement M
 run-spec =
     tie.close
     (tie.spec Inv-loop μ-loop (λ c. omega arith) (λ c. omega arith) (λ c κs. search needs) (λ c. omega arith) (λ c. omega arith)
-    (λ c κs. search needs) (λ c κs. search needs) (λ c. omega arith) (λ c. omega arith) array-share-prefix-input
-    slice-aggregate-take-steps take-steps-requires (λ c. omega arith) add-done slice-aggregate-keep keep-requires add-reads loop-less
-    loop-again (λ c. omega arith) (λ c. omega arith) (λ c κs. search needs) (λ c. omega arith) (λ c. omega arith) (λ c κs. search needs)
-    (λ c. omega arith))
+    (λ c κs. search needs) (λ c κs. search needs) (λ c. search needs) (λ c. omega arith) array-share-prefix-input
+    slice-aggregate-take-steps take-steps-requires (λ c. search needs) add-done slice-aggregate-keep keep-requires add-reads loop-less
+    loop-again (λ c. search needs) (λ c. omega arith) (λ c κs. search needs) (λ c. omega arith) (λ c κs. search needs) (λ c. search needs)
+    (λ c. search needs))
