@@ -98,12 +98,12 @@ pub fn unread(steps: u64) {
 // A write that failed: not all of this line and of those after it are printed.
 pub fn unwritten(line: u64) {
     let mut out = [0u8; 160];
-    let e0 = text::put(
+    let e0 = text::put_with(
         &mut out,
         0,
         b"standard output: could not be written from line ",
+        line,
     );
-    let e1 = text::put_number(&mut out, e0, line);
-    let end = text::put(&mut out, e1, b" on");
+    let end = text::put(&mut out, e0, b" on");
     os::fail(&out[..end]);
 }
