@@ -2,3 +2,4 @@
 pub mod Limits
 pub mod Loops
 pub mod Greatest
+pub mod Cases

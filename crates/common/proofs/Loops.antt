@@ -2,13 +2,13 @@
 use mathlib.Core.Path.{_≡_, refl, sym, ap, _∙_}
 use mathlib.Core.Bool.{Bool, true, false, _&&_, and-false}
 use mathlib.Core.List.{List}
-use Prim.Native.Nat.{ℕ, zero, suc, _+_, _*_, _≤_, _<_}
+use Prim.Native.Nat.{ℕ, zero, suc, _+_, _-_, _*_, _≤_, _<_}
 use native.Mathlib.Decide.{ℕ-discrete}
 use native.Mathlib.Numerals.{add-one}
 use native.Mathlib.Omega.{arith}
 use lib.ListN.{length, getD, set, replicate, length-set, length-replicate}
 use lib.Seq.{getD-set-same, getD-set-other}
-use borrow.Author.Tests.{ne-eqb}
+use borrow.Author.Tests.{eq-eqb, ne-eqb}
 use Rattle.common.specs.Loops.{run, filled, table, sumOf, every, firstBad}
 use Rattle.common.proofs.Limits.{both, parts}
 use Rattle.common.proofs.amounts.AmountLaws.{getD-repeat}
@@ -176,6 +176,45 @@ pub first-bad-same : (f g : ℕ → ℕ) (n : ℕ) → ((k : ℕ) → k < n → 
 unfolding firstBad
 first-bad-same f g zero h = refl
 first-bad-same f g (suc n) h = rw (first-bad-same f g n (λ k b. h k (omega arith)), h n (omega arith))
+
+-- what the first one's number and place say
+pub record Found (f : ℕ → ℕ) (n number place : ℕ) : Type 0 where
+  pub place-least : 1 ≤ place
+  pub place-most : place ≤ n
+  pub number-is : number ≡ f (place - 1)
+  pub before : (k : ℕ) → k + 1 < place → f k ≡ 0
+
+module _ (f : ℕ → ℕ) where
+  none-bad : (n : ℕ) → firstBad f n .0 ≡ 0 → (k : ℕ) → k < n → f k ≡ 0
+  unfolding firstBad
+  none-bad zero h k l = absurd (omega arith)
+  none-bad (suc n) h k l = go (ℕ-discrete (firstBad f n .0) 0) (ℕ-discrete (f n) 0) (none-bad n)
+    where
+      go : Dec (firstBad f n .0 ≡ 0) → Dec (f n ≡ 0) → (firstBad f n .0 ≡ 0 → (k : ℕ) → k < n → f k ≡ 0) → f k ≡ 0
+      go (yes e) (yes z) r = at (ℕ-discrete k n)
+        where
+          at : Dec (k ≡ n) → f k ≡ 0
+          at (yes same) = ap f same ∙ z
+          at (no other) = r e k (omega arith)
+      go (yes e) (no z) r = absurd (z (rw (eq-eqb _ 0 e, ne-eqb (f n) 0 z) at h))
+      go (no e) d r = absurd (e (rw (ne-eqb _ 0 e) at h))
+
+  pub first-bad-found : (n : ℕ) → (firstBad f n .0 ≡ 0 → ⊥) → Found f n (firstBad f n .0) (firstBad f n .1)
+  unfolding firstBad
+  first-bad-found zero h = absurd (h refl)
+  first-bad-found (suc n) h = go (ℕ-discrete (firstBad f n .0) 0) (ℕ-discrete (f n) 0) (first-bad-found n)
+    where
+      go : Dec (firstBad f n .0 ≡ 0) → Dec (f n ≡ 0) → ((firstBad f n .0 ≡ 0 → ⊥) → Found f n (firstBad f n .0) (firstBad f n .1))
+          → Found f (suc n) (firstBad f (suc n) .0) (firstBad f (suc n) .1)
+      go (yes e) (yes z) r = absurd (h (rw (eq-eqb _ 0 e, eq-eqb _ 0 z)))
+      go (yes e) (no z) r =
+          let last : n ≡ suc n - 1 = omega arith in
+          rw (eq-eqb _ 0 e, ne-eqb (f n) 0 z)
+          (record { place-least = omega arith; place-most = omega arith; number-is = ap f last; before = λ k l. none-bad n e k (omega arith) })
+      go (no e) d r =
+          let b = r e in
+          rw (ne-eqb _ 0 e)
+          (record { place-least = b .place-least; place-most = omega arith; number-is = b .number-is; before = b .before })
 
 -- none has failed
 pub record Seeking (f : ℕ → ℕ) (n i : ℕ) : Type 0 where

@@ -1,7 +1,10 @@
 -- One number in millimetres: document 01, "The forcing list", and the depth call of "Who sent it". Depths are in µm.
 use Prim.Native.Nat.{ℕ, _+_, _*_, _/_}
+use mathlib.Core.Path.{_≡_}
 use mathlib.Core.Bool.{Bool, true, false, cond, not, _&&_}
+use mathlib.Core.Logic.{_↔_}
 use lib.Dec.{ltb, leb, eqb}
+use lib.IntN.{ℤ}
 use lib.Ieee.{Float, nan, inf, fin, up, down}
 use Rattle.forcing.specs.declared.depth.Gauge.{Gauge}
 use Rattle.forcing.specs.declared.depth.Gauge.the-variants.{Rain, Pan}
@@ -65,3 +68,12 @@ answerBy number depth = cond (eqb number 0) (answer 0 depth) (answer number 0)
 -- "A depth call on one number, said to be rain or pan, gives 7, or 8 by that one's limit"
 unfoldable pub depthCall : Float → Gauge → Depth
 depthCall x said = answerBy (numberOf (limitOf said) x) (depthOf x)
+
+-- what document 01 says of the answer r, beside this rule
+pub record JudgedNumber (x : Float) (said : Gauge) (r : Depth) : Type 0 where
+  -- accepted exactly where the number is "from 0 to" its limit
+  pub accepted : (r .number ≡ 0) ↔ (fromZeroTo (limitOf said) x ≡ true)
+  -- "Minus zero is zero": no digits, with either sign, are depth 0
+  pub either-zero : (s : Bool) (e : ℤ) → x ≡ fin s 0 e → r ≡ answer 0 0
+  -- "place 0, depth 0"
+  pub refused : (r .number ≡ 0 → ⊥) → r ≡ answer (r .number) 0

@@ -3,3 +3,4 @@ pub mod Depth
 pub mod List
 pub mod File
 pub mod Workers
+pub mod Cases

@@ -1,8 +1,9 @@
 -- The lines of one step: document 01, "The forcing list", and refusals 5 to 8 of "Who sent it".
 -- Document 01 counts lines from 1, and so do places; the lists here count from 0.
-use Prim.Native.Nat.{ℕ, _<_}
+use Prim.Native.Nat.{ℕ, _+_, _-_, _≤_, _<_}
 use mathlib.Core.Path.{_≡_}
 use mathlib.Core.Bool.{Bool, true, false, cond, _&&_}
+use mathlib.Core.Logic.{_↔_}
 use mathlib.Core.List.{List}
 use lib.Dec.{eqb}
 use lib.ListN.{getD, replicate}
@@ -103,3 +104,29 @@ judgedLines lines n = cond (eqb (firstBadLine lines n .0) 0) (accepted lines n) 
 -- "5 line count not N (place 0)", before any line; what `read` answers
 unfoldable pub reading : List Line → ℕ → ℕ → Forcing
 reading lines count n = cond (eqb count n) (judgedLines lines n) (refusal 5 0)
+
+-- ---- what document 01 says of the answer r, beside this rule
+
+-- "rain before pan": the number of a bad line
+pub record RainFirst (l : Line) (number : ℕ) : Type 0 where
+  pub rain-bad : rainInside (l .rain) ≡ false → number ≡ rainNumber (l .rain)
+  pub rain-good : rainInside (l .rain) ≡ true → number ≡ numberOf (limitOf Pan) (l .pan)
+
+-- "6 to 8 are for the first bad line, rain before pan, place its line"
+pub record ForFirstBad (lines : List Line) (n : ℕ) (r : Forcing) : Type 0 where
+  pub place-least : 1 ≤ r .place
+  pub place-most : r .place ≤ n
+  pub before : (k : ℕ) → k + 1 < r .place → lineInside (lineAt lines k) ≡ true
+  pub itself : lineInside (lineAt lines (r .place - 1)) ≡ false
+  pub number-is : RainFirst (lineAt lines (r .place - 1)) (r .number)
+  -- "A refused step reports zeros"
+  pub zeros : r ≡ refusal (r .number) (r .place)
+
+pub record JudgedList (lines : List Line) (count n : ℕ) (r : Forcing) : Type 0 where
+  -- accepted exactly when "Forcing is inside the limits"
+  pub accepts : (r .number ≡ 0) ↔ Inside lines count n
+  -- "5 line count not N (place 0)", whatever the lines
+  pub counts : (count ≡ n → ⊥) → r ≡ refusal 5 0
+  pub finds : count ≡ n → (r .number ≡ 0 → ⊥) → ForFirstBad lines n r
+  -- "lines past the count aren't looked at"
+  pub looks : (other : List Line) → ((k : ℕ) → k < count → lineAt other k ≡ lineAt lines k) → reading other count n ≡ r

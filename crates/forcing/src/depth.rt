@@ -2,7 +2,7 @@
 ghost use mathlib.Core.Path.{_≡_};
 ghost use Prim.Native.Nat.{_^_, _≤_, _<_};
 ghost use lib.Ieee.{binary32, ofBits};
-ghost use Rattle.forcing.specs.Depth.{numberOf, depthOf, answer, answerBy, depthCall};
+ghost use Rattle.forcing.specs.Depth.{numberOf, depthOf, answer, answerBy, depthCall, JudgedNumber};
 ghost use Rattle.forcing.specs.Workers.{Scaled, ofFraction};
 
 // The limits of rain and pan, in millimetres.
@@ -25,7 +25,8 @@ pub struct Depth {
 
 // The depth call on one number in millimetres, said to be rain or pan.
 pub fn depth_of(x: f32, said: Gauge) -> Depth
-    ensures { λ r. ⌜ r ≡ depthCall x said ⌝ }
+    ensures answered { λ r. ⌜ r ≡ depthCall x said ⌝ }
+    ensures judged { λ r. ⌜ JudgedNumber x said r ⌝ }
 {
     match said {
         Gauge::Rain => judge(x, MOST_RAIN_MM),

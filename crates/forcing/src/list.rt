@@ -1,7 +1,7 @@
 // The lines of one step: document 01, "The forcing list", and refusals 5 to 8 of "Who sent it".
 ghost use mathlib.Core.Path.{_≡_};
 ghost use Rattle.forcing.specs.Depth.{answer, answerBy};
-ghost use Rattle.forcing.specs.List.{rainNumber, rainDepth, estimatedOf, refusal, reading};
+ghost use Rattle.forcing.specs.List.{rainNumber, rainDepth, estimatedOf, refusal, reading, JudgedList};
 ghost use Rattle.forcing.specs.Workers.{badLine, judgedLine};
 use crate::depth;
 use crate::depth::Depth;
@@ -40,7 +40,8 @@ struct Judged {
 
 // Judges the lines of one step, for a basin of n sub-basins.
 pub fn read(lines: [Line; 32], count: u64, n: u64) -> Forcing
-    ensures { λ r. ⌜ r ≡ reading lines count n ⌝ }
+    ensures answered { λ r. ⌜ r ≡ reading lines count n ⌝ }
+    ensures judged { λ r. ⌜ JudgedList lines count n r ⌝ }
 {
     if count != n {
         return refuse(5, 0);

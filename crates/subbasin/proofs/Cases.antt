@@ -1,18 +1,14 @@
 -- Case A of document 01, its first step over the definitions: one computation. Assumes nothing.
 use mathlib.Core.Path.{_≡_, refl}
 use lib.ListN.{replicate}
-use Rattle.common.specs.Limits.{wordsIn}
 use Rattle.common.specs.Cases.{Agree}
-use Rattle.common.proofs.Limits.{words-limits}
 use Rattle.curve.specs.Store.{outflow, content}
 use Rattle.curve.proofs.capacity.FastLaws.{fastRise, rise-fast}
-use Rattle.subbasin.specs.Record.{words, mostStart}
 use Rattle.subbasin.specs.Soil.{ep, evaporated, mm, rb, gain, refilled, runoff}
 use Rattle.subbasin.specs.FreeWater.{ms, level, keep, parted}
 use Rattle.subbasin.specs.Lag.{leaving, waitingAfter, entered}
 use Rattle.subbasin.specs.Step.{stepped}
 use Rattle.subbasin.specs.Cases.{case-a, weather-a, stepCases}
-use Rattle.subbasin.proofs.step.StepLaws.{Sound, sound-file}
 
 pub step-a : stepped case-a weather-a
     ≡ record {
@@ -41,8 +37,3 @@ step-a = simp rise-fast
 pub step-cases : Agree stepCases
 unfolding stepped evaporated ep runoff rb gain mm refilled parted keep level ms outflow content leaving waitingAfter entered fastRise
 step-cases = simp rise-fast (refl, (refl, (refl, (refl, (refl, (refl, (refl, tt)))))))
-
--- so the laws of sound records are about something
-pub sound-a : Sound case-a
-unfolding wordsIn
-sound-a = sound-file 0 case-a (words-limits (words 0 mostStart case-a) refl) refl refl

@@ -3,7 +3,7 @@ ghost use mathlib.Core.Path.{_≡_};
 ghost use Prim.Native.Nat.{_-_, _≤_};
 ghost use mathlib.Core.List.{_∷_, _++_};
 ghost use lib.ListN.{take, replicate};
-ghost use Rattle.subbasin.specs.Lag.{lineIn, leaving, entered};
+ghost use Rattle.subbasin.specs.Lag.{lineIn, leaving, entered, Lagged};
 use crate::record::LagLine;
 use common::amounts;
 
@@ -23,7 +23,8 @@ pub fn allowed(line: LagLine) -> bool
 // What leaves when the amount t enters: what entered as many steps ago as the lag says.
 pub fn leave(line: LagLine, t: u64) -> u64
     requires { ⌜ line .lag ≤ 15 ⌝ }
-    ensures { λ r. ⌜ r ≡ leaving line t ⌝ }
+    ensures answered { λ r. ⌜ r ≡ leaving line t ⌝ }
+    ensures lagged { λ r. ⌜ Lagged line t r ⌝ }
 {
     let lag = line.lag;
     let waiting = line.waiting;

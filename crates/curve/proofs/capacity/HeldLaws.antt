@@ -6,9 +6,9 @@ use native.Mathlib.Nat.{mul-div-right, zero-div, div-le-of-le-mul, div-mul-le-se
 use native.Mathlib.Decide.{decLe}
 use native.Mathlib.Omega.{arith}
 use lib.Dec.{leb}
-use borrow.Author.Tests.{le-leb, lt-leb, leb-true, leb-false}
+use borrow.Author.Tests.{le-leb, lt-leb, leb-false}
 use Rattle.common.specs.Shares.{one}
-use Rattle.common.proofs.Greatest.{greatest-le, greatest-holds, greatest-above, greatest-is}
+use Rattle.common.proofs.Greatest.{greatest-le, greatest-above, greatest-is}
 use Rattle.curve.specs.Capacity.{shareAbove, held, ordinate, rise, leastE}
 use Rattle.curve.proofs.capacity.PowerLaws.{power-mono, power-zero, power-one}
 
@@ -55,13 +55,7 @@ pub ordinate-le : (c m e w : ℕ) → ordinate c m e w ≤ m
 unfolding ordinate
 ordinate-le c m e w = greatest-le (λ a. leb (held c m e a) w) m
 
--- Held at the ordinate is at most w
-pub ordinate-held : (c m e w : ℕ) → 0 < m → held c m e (ordinate c m e w) ≤ w
-unfolding ordinate
-ordinate-held c m e w z =
-    leb-true _ _ (greatest-holds (λ a. leb (held c m e a) w) m (le-leb (held c m e 0) w (omega (arith, held-zero c m e z))))
-
--- and at any greater point up to m it is more
+-- at any point above the ordinate, up to m, more than w is held
 pub ordinate-above : (c m e w a : ℕ) → ordinate c m e w < a → a ≤ m → w < held c m e a
 unfolding ordinate
 ordinate-above c m e w a h k = leb-false _ _ (greatest-above (λ a. leb (held c m e a) w) m a h k)

@@ -71,6 +71,3 @@ part-one e b = go (eqb (e % 16 / b % 2) 1)
 pub power-one : (e : ℕ) → power one e ≡ one
 unfolding power
 power-one e = simp (root-one, whole-one, part-one)
-
-pub power-le-one : {t : ℕ} (e : ℕ) → t ≤ one → power t e ≤ one
-power-le-one e h = rw power-one at (power-mono e h)

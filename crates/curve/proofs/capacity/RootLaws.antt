@@ -38,14 +38,8 @@ root-mono {s} {t} h =
     let more : ¬ (root t < root s) = λ l. omega (arith, root-above t (root s) l, root-square s) in
     omega arith
 
-pub root-zero : root 0 ≡ 0
-root-zero = root-unique 0 0 (omega arith) (omega arith)
-
 pub root-one : root one ≡ one
 root-one = root-unique one one (omega arith) (omega arith)
-
-pub root-le-one : {t : ℕ} → t ≤ one → root t ≤ one
-root-le-one h = rw root-one at (root-mono h)
 
 -- the arithmetic mean is at least the geometric one
 pub mean : (x y : ℕ) → 4 * (x * y) ≤ (x + y) * (x + y)

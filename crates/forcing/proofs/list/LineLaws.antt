@@ -5,6 +5,7 @@ use mathlib.Core.Path.{_≡_, refl, sym, _∙_}
 use Prim.Native.Nat.{ℕ, zero, suc, _≤_, zero-le}
 use native.Mathlib.Omega.{arith}
 use lib.Dec.{eqb, eqb·suc-zero}
+use lib.Ieee.{ofBits}
 use borrow.Author.Tests.{eq-eqb, ne-eqb}
 use Rattle.common.specs.Weather.{mostRain, WeatherIn}
 use Rattle.common.proofs.Limits.{parts}
@@ -13,8 +14,8 @@ use Rattle.forcing.specs.declared.depth.Gauge.the-variants.{Rain, Pan}
 use Rattle.forcing.specs.declared.list.Reading.{Reading}
 use Rattle.forcing.specs.declared.list.Reading.the-variants.{Measured, Estimated, Missing}
 use Rattle.forcing.specs.declared.list.Line.{Line}
-use Rattle.forcing.specs.Depth.{depthOf, limitOf, fromZeroTo, numberOf, answerBy, depthCall}
-use Rattle.forcing.specs.List.{rainDepth, weatherOf, rainInside, lineInside, estimatedOf, rainNumber, lineNumber}
+use Rattle.forcing.specs.Depth.{numerator, denominator, depthOf, limitOf, fromZeroTo, unfit, aboveLimit, numberOf, answerBy}
+use Rattle.forcing.specs.List.{blank, rainDepth, weatherOf, rainInside, lineInside, estimatedOf, rainNumber, lineNumber, RainFirst}
 use Rattle.forcing.specs.Workers.{badLine, goodLine, judgedLine}
 use Rattle.forcing.proofs.depth.DepthLaws.{number-test, depth-le, answer-number, answer-depth}
 
@@ -27,12 +28,29 @@ rain-test Missing = refl
 
 pub line-test : (l : Line) → eqb (lineNumber l) 0 ≡ lineInside l
 unfolding lineNumber lineInside
-line-test l = rw (← (rain-test (l .rain)), ← (number-test (limitOf Pan) (l .pan))) (first (eqb (rainNumber (l .rain)) 0) refl)
+line-test l = rw (← (rain-test (l .rain)), ← (number-test (limitOf Pan) (l .pan))) (go (eqb rain 0) (eqb pan 0) refl refl)
   where
-    first : (t : Bool) → eqb (rainNumber (l .rain)) 0 ≡ t
-        → eqb (cond t (numberOf (limitOf Pan) (l .pan)) (rainNumber (l .rain))) 0 ≡ t && eqb (numberOf (limitOf Pan) (l .pan)) 0
-    first true h = refl
-    first false h = h
+    rain : ℕ
+    rain = rainNumber (l .rain)
+
+    pan : ℕ
+    pan = numberOf (limitOf Pan) (l .pan)
+
+    go : (t u : Bool) → eqb rain 0 ≡ t → eqb pan 0 ≡ u → eqb (cond t pan rain) 0 ≡ t && u
+    go true true h k = cc
+    go true false h k = cc
+    go false true h k = cc
+    go false false h k = cc
+
+-- "rain before pan"
+pub rain-first : (l : Line) → RainFirst l (lineNumber l)
+unfolding lineNumber
+rain-first l = record { rain-bad = λ h. rw (rain-test (l .rain), h); rain-good = λ h. rw (rain-test (l .rain), h) }
+
+-- past the end of a list rain is missing
+pub blank-number : lineNumber blank ≡ 6
+unfolding ofBits lineNumber numberOf unfit aboveLimit numerator denominator
+blank-number = refl
 
 rain-le : (r : Reading) → rainInside r ≡ true → rainDepth r ≤ mostRain
 rain-le (Measured x) h = depth-le (limitOf Rain) x h
@@ -69,31 +87,33 @@ module _ (l : Line) where
   unfolding judgedLine
   judged-bad n e h = rw (← e, ne-eqb n 0 h)
 
-  -- the three ways out of `judge_line`, with the answers p for rain and e for pan
-  module _ {p : Depth} (isP : p ≡ answerBy (rainNumber (l .rain)) (rainDepth (l .rain))) where
-    p-number : p .number ≡ rainNumber (l .rain)
-    p-number = answer-number (rainNumber (l .rain)) (rainDepth (l .rain)) isP
+  -- number and depth of rain and of pan, in the order in which they are judged
+  abbrev pub first : ℕ × ℕ
+  first = (rainNumber (l .rain), rainDepth (l .rain))
 
-    pub rain-bad : (p .number ≡ 0 → ⊥) → badLine (p .number) ≡ judgedLine l
+  abbrev pub second : ℕ × ℕ
+  second = (numberOf (limitOf Pan) (l .pan), depthOf (l .pan))
+
+  -- the three ways out of `judge_line`, with the answers p and e
+  module _ {p : Depth} (isP : p ≡ answerBy (first .0) (first .1)) where
+    p-number : p .number ≡ first .0
+    p-number = answer-number (first .0) (first .1) isP
+
+    pub first-bad : (p .number ≡ 0 → ⊥) → badLine (p .number) ≡ judgedLine l
     unfolding lineNumber
-    rain-bad h = judged-bad (p .number) (rw (ne-eqb (rainNumber (l .rain)) 0 (λ e. h (p-number ∙ e))) p-number) h
+    first-bad h = judged-bad (p .number) (rw (ne-eqb (first .0) 0 (λ e. h (p-number ∙ e))) p-number) h
 
-    module _ {e : Depth} (isE : e ≡ depthCall (l .pan) Pan) (fine : p .number ≡ 0) where
+    module _ {e : Depth} (isE : e ≡ answerBy (second .0) (second .1)) (fine : p .number ≡ 0) where
       e-number : e .number ≡ lineNumber l
-      unfolding lineNumber depthCall
-      e-number =
-          rw (eq-eqb (rainNumber (l .rain)) 0 (sym p-number ∙ fine)) (answer-number (numberOf (limitOf Pan) (l .pan)) (depthOf (l .pan)) isE)
+      unfolding lineNumber
+      e-number = rw (eq-eqb (first .0) 0 (sym p-number ∙ fine)) (answer-number (second .0) (second .1) isE)
 
-      pub pan-bad : (e .number ≡ 0 → ⊥) → badLine (e .number) ≡ judgedLine l
-      pan-bad h = judged-bad (e .number) e-number h
+      pub second-bad : (e .number ≡ 0 → ⊥) → badLine (e .number) ≡ judgedLine l
+      second-bad h = judged-bad (e .number) e-number h
 
       pub line-good : e .number ≡ 0 → {m : ℕ} → m ≡ estimatedOf (l .rain)
           → record { number = 0; weather = record { rain = p .depth; pan = e .depth }; estimated = m } ≡ judgedLine l
-      unfolding weatherOf depthCall
+      unfolding weatherOf
       line-good h isM =
-          rw (
-            isM,
-            answer-depth (rainNumber (l .rain)) (rainDepth (l .rain)) isP fine,
-            answer-depth (numberOf (limitOf Pan) (l .pan)) (depthOf (l .pan)) isE h,
-          )
+          rw (isM, answer-depth (first .0) (first .1) isP fine, answer-depth (second .0) (second .1) isE h)
           (sym (judged-good (sym e-number ∙ h)))

@@ -3,8 +3,8 @@
 use mathlib.Core.Path.{_≡_, refl, sym, ap, _∙_}
 use mathlib.Core.Bool.{Bool, true, false, _&&_, true≢false, cond}
 use mathlib.Core.List.{List}
-use Prim.Native.Nat.{ℕ, zero, suc, _≤_, _<_}
-use native.Mathlib.Decide.{decLe}
+use Prim.Native.Nat.{ℕ, zero, suc, _-_, _≤_, _<_}
+use native.Mathlib.Decide.{decLe, ℕ-discrete}
 use native.Mathlib.Omega.{arith}
 use borrow.Author.Tests.{eq-eqb, ne-eqb, eqb-true, eqb-false}
 use lib.Dec.{eqb}
@@ -12,14 +12,14 @@ use lib.ListN.{length, getD, replicate, List·getD-eq-default}
 use Rattle.common.specs.declared.weather.Weather.{Weather}
 use Rattle.common.specs.Weather.{calm, WeatherIn}
 use Rattle.common.specs.Loops.{table, every, firstBad}
-use Rattle.common.proofs.Limits.{both, parts}
+use Rattle.common.proofs.Limits.{by-test, both, parts}
 use Rattle.common.proofs.amounts.AmountLaws.{getD-repeat}
-use Rattle.common.proofs.Loops.{table-length, table-in, table-past, filled-same, sum-same, every-in, every-at, first-bad-same}
+use Rattle.common.proofs.Loops.{table-length, table-in, table-past, filled-same, sum-same, every-in, every-at, first-bad-same, first-bad-found}
 use Rattle.forcing.specs.declared.list.Line.{Line}
 use Rattle.forcing.specs.declared.list.Forcing.{Forcing}
 use Rattle.forcing.specs.List.{lineAt, weatherOf, lineInside, Inside, isInside, estimatedOf}
-use Rattle.forcing.specs.List.{lineNumber, firstBadLine, accepted, refusal, judgedLines, reading}
-use Rattle.forcing.proofs.list.LineLaws.{line-test, line-weather}
+use Rattle.forcing.specs.List.{lineNumber, firstBadLine, accepted, refusal, judgedLines, reading, ForFirstBad, JudgedList}
+use Rattle.forcing.proofs.list.LineLaws.{line-test, rain-first, line-weather}
 
 -- ---- inside the limits
 
@@ -33,7 +33,7 @@ lines-test lines (suc n) = rw (← (line-test (lineAt lines n)), ← (lines-test
     number = lineNumber (lineAt lines n)
 
     go : (t u : Bool) → eqb (firstBadLine lines n .0) 0 ≡ t → eqb number 0 ≡ u
-        → eqb (cond t (cond u (0, 0) (number, suc n)) (firstBadLine lines n) .0) 0 ≡ t && u
+        → eqb (cond t (cond u (0, 0) (number, suc n)) (firstBad (λ k. lineNumber (lineAt lines k)) n) .0) 0 ≡ t && u
     go true true h k = refl
     go true false h k = k
     go false u h k = h
@@ -90,19 +90,12 @@ module _ (lines : List Line) (count n : ℕ) where
       (λ i. sym (inside-test i))
       (λ t number place h. ne-eqb number 0 h ∙ sym t)
 
-  -- the whole answer, accepted and refused
+  -- the whole answer
   pub accepted-is : reading lines count n .number ≡ 0 → reading lines count n ≡ accepted lines n
   accepted-is =
       reading-cases (λ (r : Forcing). r .number ≡ 0 → r ≡ accepted lines n) lines count n
       (λ i e. refl)
       (λ t number place h e. absurd (h e))
-
-  pub refused-is : (reading lines count n .number ≡ 0 → ⊥)
-      → reading lines count n ≡ refusal (reading lines count n .number) (reading lines count n .place)
-  refused-is =
-      reading-cases (λ (r : Forcing). (r .number ≡ 0 → ⊥) → r ≡ refusal (r .number) (r .place)) lines count n
-      (λ i e. absurd (e refl))
-      (λ t number place h e. refl)
 
   -- ---- the weather
 
@@ -143,3 +136,48 @@ reading-same lines other count n same =
       sum-same (λ k. estimatedOf (lineAt lines k .rain)) (λ k. estimatedOf (lineAt other k .rain)) n (λ k p. ap (λ (l : Line). estimatedOf (l .rain)) (same k p)),
       filled-same (λ k. weatherOf (lineAt lines k)) (λ k. weatherOf (lineAt other k)) n (replicate 32 calm) (λ k p. ap weatherOf (same k p)),
     )
+
+-- ---- what document 01 says of it, in the contract of `read`
+
+pub miscounted : (lines : List Line) (count n : ℕ) → (count ≡ n → ⊥) → reading lines count n ≡ refusal 5 0
+unfolding reading
+miscounted lines count n h = rw (ne-eqb count n h)
+
+module _ (lines : List Line) (count n : ℕ) where
+  -- the first bad line's number and place
+  found : (firstBadLine lines n .0 ≡ 0 → ⊥) → ForFirstBad lines n (refusal (firstBadLine lines n .0) (firstBadLine lines n .1))
+  found bad =
+      let l = lineAt lines (firstBadLine lines n .1 - 1) in
+      let f = first-bad-found (λ k. lineNumber (lineAt lines k)) n bad in
+      record {
+        place-least = f .place-least;
+        place-most = f .place-most;
+        before = λ k p. sym (line-test (lineAt lines k)) ∙ eq-eqb (lineNumber (lineAt lines k)) 0 (f .before k p);
+        itself = sym (line-test l) ∙ ne-eqb (lineNumber l) 0 (λ z. bad (f .number-is ∙ z));
+        number-is = rw (f .number-is) (rain-first l);
+        zeros = refl;
+      }
+
+  finds : count ≡ n → (reading lines count n .number ≡ 0 → ⊥) → ForFirstBad lines n (reading lines count n)
+  unfolding reading judgedLines
+  finds e =
+      rw (eq-eqb count n e)
+      (by-test (λ (r : Forcing). (r .number ≡ 0 → ⊥) → ForFirstBad lines n r) (eqb (firstBadLine lines n .0) 0)
+      (λ t bad. absurd (bad refl))
+      (λ t. found))
+
+  looks : (other : List Line) → ((k : ℕ) → k < count → lineAt other k ≡ lineAt lines k) → reading other count n ≡ reading lines count n
+  looks other same = go (ℕ-discrete count n)
+    where
+      go : Dec (count ≡ n) → reading other count n ≡ reading lines count n
+      go (yes e) = reading-same other lines count n (λ k p. same k (omega arith))
+      go (no e) = miscounted other count n e ∙ sym (miscounted lines count n e)
+
+  pub reading-judged : JudgedList lines count n (reading lines count n)
+  reading-judged =
+      record {
+        accepts = (accepted-inside lines count n, inside-accepted lines count n);
+        counts = miscounted lines count n;
+        finds = finds;
+        looks = looks;
+      }

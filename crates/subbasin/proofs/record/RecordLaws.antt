@@ -16,7 +16,7 @@ use Rattle.common.proofs.amounts.AmountLaws.{UpTo, all-limits, all-in, listed-t
 use Rattle.subbasin.specs.declared.record.Parameters.{Parameters}
 use Rattle.subbasin.specs.declared.record.Contents.{Contents}
 use Rattle.subbasin.specs.declared.record.SubBasin.{SubBasin}
-use Rattle.subbasin.specs.Lag.{mostWaiting, lineIn}
+use Rattle.subbasin.specs.Lag.{inUse, mostWaiting, lineIn}
 use Rattle.subbasin.specs.Workers.{further, leading}
 use Rattle.subbasin.specs.Record.{words, firstOutside, wordsOf, ofWords, wordCount, mostSlow, mostStored, recordIn, isBlank, blankSub}
 
@@ -62,7 +62,7 @@ leading-first k (w ∷ ws) = go (within (w .lo) (w .value) (w .hi)) refl (leadin
 pub record RecordIn (m : ℕ) (s : SubBasin) : Type 0 where
   pub in-words : Within (words m mostSlow s)
   pub in-line : UpTo mostWaiting (s .line .waiting)
-  pub unused : UpTo 0 (drop (s .line .lag) (s .line .waiting))
+  pub unused : UpTo 0 (drop (inUse (s .line)) (s .line .waiting))
   pub in-channel : s .channel ≤ mostStored
 
 module _ (m : ℕ) (s : SubBasin) where
@@ -70,14 +70,14 @@ module _ (m : ℕ) (s : SubBasin) where
   unfolding recordIn lineIn
   record-limits t =
       let us = allUpTo mostWaiting (s .line .waiting) in
-      let zs = allUpTo 0 (drop (s .line .lag) (s .line .waiting)) in
+      let zs = allUpTo 0 (drop (inUse (s .line)) (s .line .waiting)) in
       let a = parts (wordsIn (words m mostSlow s) && (us && zs)) (leb (s .channel) mostStored) t in
       let b = parts (wordsIn (words m mostSlow s)) (us && zs) (a .0) in
       let l = parts us zs (b .1) in
       record {
         in-words = words-limits (words m mostSlow s) (b .0);
         in-line = all-limits mostWaiting (s .line .waiting) (l .0);
-        unused = all-limits 0 (drop (s .line .lag) (s .line .waiting)) (l .1);
+        unused = all-limits 0 (drop (inUse (s .line)) (s .line .waiting)) (l .1);
         in-channel = leb-true (s .channel) mostStored (a .1);
       }
 
@@ -87,7 +87,7 @@ module _ (m : ℕ) (s : SubBasin) where
       both
       (both
       (words-in (words m mostSlow s) (h .in-words))
-      (both (all-in mostWaiting (s .line .waiting) (h .in-line)) (all-in 0 (drop (s .line .lag) (s .line .waiting)) (h .unused))))
+      (both (all-in mostWaiting (s .line .waiting) (h .in-line)) (all-in 0 (drop (inUse (s .line)) (s .line .waiting)) (h .unused))))
       (le-leb (s .channel) mostStored (h .in-channel))
 
   -- the tests of a record, one after the other
@@ -126,23 +126,7 @@ words-with m m′ v v′ s s′ h f l r c = within-join 17 (words m′ v′ s′
 
 -- ---- all zeros
 
-pub record Blank (s : SubBasin) : Type 0 where
-  pub none-waits : UpTo 0 (s .line .waiting)
-  pub no-channel : s .channel ≡ 0
-  pub no-words : UpTo 0 (wordsOf s)
-
 module _ (s : SubBasin) where
-  pub blank-limits : isBlank s ≡ true → Blank s
-  unfolding isBlank
-  blank-limits t =
-      let a = parts (allUpTo 0 (s .line .waiting) && eqb (s .channel) 0) (allUpTo 0 (wordsOf s)) t in
-      let b = parts (allUpTo 0 (s .line .waiting)) (eqb (s .channel) 0) (a .0) in
-      record {
-        none-waits = all-limits 0 (s .line .waiting) (b .0);
-        no-channel = eqb-true (s .channel) 0 (b .1);
-        no-words = all-limits 0 (wordsOf s) (a .1);
-      }
-
   -- its tests, one after the other
   module _ {b : Bool} (t : b ≡ allUpTo 0 (s .line .waiting)) where
     pub some-waits : b ≡ false → false ≡ isBlank s

@@ -14,7 +14,7 @@ use Rattle.subbasin.specs.declared.step.Stepped.{Stepped}
 use Rattle.subbasin.specs.Record.{words, mostStart, mostSlow}
 use Rattle.subbasin.specs.declared.soil.Runoff.{Runoff}
 use Rattle.subbasin.specs.declared.free_water.Parted.{Parted}
-use Rattle.subbasin.specs.Lag.{leaving, entered}
+use Rattle.subbasin.specs.Lag.{inUse, leaving, entered}
 use Rattle.subbasin.specs.Step.{rest, let-go, holds, total, stepped}
 use Rattle.common.specs.Amounts.{sum}
 use Rattle.subbasin.specs.Content.{waterDepth, water}
@@ -176,7 +176,7 @@ pub record Sound (s : SubBasin) : Type 0 where
   pub ground : rest (s .fixed .cg) * s .contents .vg ≤ one * mostStart
   pub places : length (s .line .waiting) ≡ 15
   pub in-line : UpTo (2 ^ 34) (s .line .waiting)
-  pub unused : UpTo 0 (drop (s .line .lag) (s .line .waiting))
+  pub unused : UpTo 0 (drop (inUse (s .line)) (s .line .waiting))
   pub in-channel : rest (s .fixed .cs) * s .channel ≤ (one - rest (s .fixed .cs)) * 2 ^ 34 + slack
 
 rest-le : (share v b : ℕ) → v ≤ b → rest share * v ≤ one * b
@@ -192,7 +192,7 @@ sound-file m s h e z =
       ground = rest-le (s .fixed .cg) (s .contents .vg) mostStart (omega arith);
       places = rw e;
       in-line = rw e (up-to-zeros (2 ^ 34) 15);
-      unused = rw e (up-to-drop 0 (s .line .lag) (replicate 15 0) (up-to-zeros 0 15));
+      unused = rw e (up-to-drop 0 (inUse (s .line)) (replicate 15 0) (up-to-zeros 0 15));
       in-channel = rw z (omega arith);
     }
 

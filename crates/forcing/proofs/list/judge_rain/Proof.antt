@@ -7,11 +7,11 @@ use Rattle.forcing.proofs.list.judge_rain.Tie as tie
 
 returns : tie.Need-returns
 unfolding depthCall
-returns c = rw (c .before .before .reading .given .1) (c .depth-of .ensures)
+returns c = rw (c .before .before .reading .given .1) (c .depth-of .ensures .0)
 
 returns-2 : tie.Need-returns-2
 unfolding depthCall
-returns-2 c = rw (c .before .before .reading2 .given .1) (c .depth-of2 .ensures)
+returns-2 c = rw (c .before .before .reading2 .given .1) (c .depth-of2 .ensures .0)
 
 returns-3 : tie.Need-returns-3
 unfolding answerBy

@@ -14,9 +14,11 @@ use Rattle.common.proofs.Loops.{Filling, fill-begin, fill-turn, fill-end, Seeki
 use Rattle.common.proofs.Loops.{Adding, add-begin, add-turn, add-end, sum-bound}
 use Rattle.forcing.specs.declared.list.Line.{Line}
 use Rattle.forcing.specs.declared.list.Judged.{Judged}
-use Rattle.forcing.specs.List.{blank, lineAt, weatherOf, estimatedOf, lineNumber, refusal, judgedLines, reading}
+use Rattle.forcing.specs.declared.list.Forcing.{Forcing}
+use Rattle.forcing.specs.List.{blank, lineAt, weatherOf, estimatedOf, lineNumber, refusal, judgedLines, reading, JudgedList}
 use Rattle.forcing.specs.Workers.{judgedLine}
-use Rattle.forcing.proofs.list.LineLaws.{estimated-one, judged-number, judged-good}
+use Rattle.forcing.proofs.list.LineLaws.{blank-number, estimated-one, judged-number, judged-good}
+use Rattle.forcing.proofs.list.ReadLaws.{miscounted, reading-judged}
 use Rattle.forcing.proofs.list.read.Statement.{statement}
 use Rattle.forcing.proofs.list.read.Tie as tie
 
@@ -31,9 +33,9 @@ few : {lines : List Line} {n : ℕ} {weather : List Weather} {estimated at : ℕ
 few {lines} {at = at} b =
     omega (arith, b .adding .so-far, sum-bound (λ k. estimatedOf (lineAt lines k .rain)) 1 at (λ k l. estimated-one (lineAt lines k .rain)))
 
-miscounted : (lines : List Line) {count n : ℕ} → (count ≡ n → ⊥) → refusal 5 0 ≡ reading lines count n
-unfolding reading
-miscounted lines {count} {n} h = rw (ne-eqb count n h)
+-- the answer's equation, and with it what document 01 says of it
+answered : (lines : List Line) (count n : ℕ) {r : Forcing} → r ≡ reading lines count n → (r ≡ reading lines count n) × JudgedList lines count n r
+answered lines count n e = (e, rw e (reading-judged lines count n))
 
 module _ {lines : List Line} {count n : ℕ} {weather : List Weather} {estimated at : ℕ} (b : Before lines n weather estimated at)
     (counted : count ≡ n) where
@@ -50,8 +52,7 @@ module _ {lines : List Line} {count n : ℕ} {weather : List Weather} {estimated
 
   module _ (len : length lines ≡ 32) (h : at < n) where
     missing : 31 < at → refusal 6 (at + 1) ≡ reading lines count n
-    unfolding lineNumber
-    missing k = stops h (rw (List·getD-eq-default lines blank {n = at} (omega arith))) (λ z. omega arith)
+    missing k = stops h (sym (ap lineNumber (List·getD-eq-default lines blank {n = at} (omega arith)) ∙ blank-number)) (λ z. omega arith)
 
     -- it is judged
     module _ (within : at ≤ 31) (other : Line) {j : Judged} (isJ : j ≡ judgedLine (getD lines at other)) where
@@ -85,7 +86,7 @@ lines-32 : (c : tie.Start Inv-loop μ-loop) → length (c .args .t1) ≡ 32
 lines-32 c = c .good .0 .1 .0 .1
 
 returns : tie.Need-returns Inv-loop μ-loop
-returns c = c .refuse .ensures ∙ miscounted (c .before .before .args .t1) (c .before .if1 .taken)
+returns c = answered _ _ _ (c .refuse .ensures ∙ sym (miscounted (c .before .before .args .t1) _ _ (c .before .if1 .taken)))
 
 loop-holds : tie.Need-loop-holds Inv-loop μ-loop
 loop-holds c = record { filling = fill-begin; seeking = seek-begin; adding = add-begin }
@@ -94,8 +95,9 @@ returns-2 : tie.Need-returns-2 Inv-loop μ-loop
 returns-2 c =
     let turning = c .before .before in
     let counted = turning .before .before in
-    c .refuse2 .ensures
-    ∙ missing (turning .before .loop .inv) (counted .if1 .left) (lines-32 (counted .before)) (turning .loop-test .taken) (c .before .if2 .taken)
+    answered _ _ _
+    (c .refuse2 .ensures
+    ∙ missing (turning .before .loop .inv) (counted .if1 .left) (lines-32 (counted .before)) (turning .loop-test .taken) (c .before .if2 .taken))
 
 returns-3 : tie.Need-returns-3 Inv-loop μ-loop
 returns-3 c =
@@ -103,9 +105,10 @@ returns-3 c =
     let within = judged .before .before in
     let turning = within .before in
     let counted = turning .before .before in
-    c .refuse3 .ensures
+    answered _ _ _
+    (c .refuse3 .ensures
     ∙ found (turning .before .loop .inv) (counted .if1 .left) (lines-32 (counted .before)) (turning .loop-test .taken) (within .if2 .left) _
-    (judged .judge-line .ensures) (c .before .if3 .taken)
+    (judged .judge-line .ensures) (c .before .if3 .taken))
 
 loop-again : tie.Need-loop-again Inv-loop μ-loop
 loop-again c =
@@ -121,7 +124,7 @@ add-estimated : tie.Need-add-estimated Inv-loop μ-loop
 add-estimated c = omega (arith, few (loop-again c))
 
 returns-4 : tie.Need-returns-4 Inv-loop μ-loop
-returns-4 c = ended (c .before .loop .inv) (c .before .before .if1 .left) (c .loop-test .left)
+returns-4 c = answered _ _ _ (ended (c .before .loop .inv) (c .before .before .if1 .left) (c .loop-test .left))
 
 pub read-spec : {M : Type 1} → statement M
 read-spec =

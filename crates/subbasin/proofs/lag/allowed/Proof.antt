@@ -5,12 +5,12 @@ use lib.ListN.{drop}
 use borrow.Author.Needs.{needs}
 use Rattle.common.specs.Amounts.{allUpTo}
 use Rattle.subbasin.specs.declared.record.LagLine.{LagLine}
-use Rattle.subbasin.specs.Lag.{mostWaiting, lineIn}
+use Rattle.subbasin.specs.Lag.{inUse, mostWaiting, lineIn}
 use Rattle.subbasin.proofs.lag.allowed.Statement.{statement}
 use Rattle.subbasin.proofs.lag.allowed.Tie as tie
 
 module _ (line : LagLine) {b : Bool} (t : b ≡ allUpTo mostWaiting (line .waiting)) where
-  low : b ≡ true → allUpTo 0 (drop (line .lag) (line .waiting)) ≡ lineIn line
+  low : b ≡ true → allUpTo 0 (drop (inUse line) (line .waiting)) ≡ lineIn line
   unfolding lineIn
   low y = sym (rw (sym t ∙ y))
 

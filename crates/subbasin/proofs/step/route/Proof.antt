@@ -13,7 +13,7 @@ use Rattle.subbasin.specs.declared.soil.Evaporated.{Evaporated}
 use Rattle.subbasin.specs.declared.soil.Runoff.{Runoff}
 use Rattle.subbasin.specs.declared.free_water.Parted.{Parted}
 use Rattle.subbasin.specs.declared.record.LagLine.{LagLine}
-use Rattle.subbasin.specs.Lag.{leaving, entered}
+use Rattle.subbasin.specs.Lag.{inUse, leaving, entered}
 use Rattle.subbasin.specs.Step.{slowStore, let-go, total, gathered, with-parted}
 use Rattle.common.proofs.amounts.AmountLaws.{UpTo, up-to-at}
 use Rattle.subbasin.proofs.record.RecordLaws.{RecordIn, record-limits}
@@ -42,7 +42,7 @@ let-go-le share v i = store-within (omega arith) (omega arith) v i
 
 leaving-le : (line : LagLine) (t b : ℕ) → t ≤ b → UpTo b (line .waiting) → leaving line t ≤ b
 unfolding leaving
-leaving-le line t b h k = up-to-at b (t ∷ line .waiting) (line .lag) (h, k)
+leaving-le line t b h k = up-to-at b (t ∷ line .waiting) (inUse line) (h, k)
 
 module _ (s : SubBasin) (ro : Runoff) (pw : Parted) (fits : RecordIn (s .fixed .reach) s) (direct : pw .rs + ro .rb ≤ 1100000) (drained : pw .ri + pw .rg ≤ 100000)
     {i-store g-store : Store} {i g : Released} (i-made : i-store ≡ slowStore (s .fixed .ci) (s .contents .vi)) (i-taken : i ≡ storeCall i-store (pw .ri))
@@ -130,7 +130,7 @@ returns c =
     let at = c .before .before .before .before .before .before .before .before .before .before .before .before .before .before .before .before .before .before .before .before in
     gathers (at .args .s) (at .args .ro) (at .args .pw) (record-limits _ _ (at .pre .0)) (at .pre .1) (at .pre .2)
     (c .before .before .before .before .before .before .before .before .before .before .before .before .before .before .before .before .slow .ensures) (c .before .before .before .before .before .before .before .before .before .before .before .before .before .before .before .take .ensures) (c .before .before .before .before .before .before .before .before .before .before .before .before .before .before .slow2 .ensures) (c .before .before .before .before .before .before .before .before .before .before .before .before .before .take2 .ensures) (at .args .ev)
-    (c .before .before .before .before .before .before .before .slow3 .ensures) (c .before .before .before .before .before .take3 .ensures) (c .before .before .before .before .before .before .leave .ensures) (c .enter .ensures)
+    (c .before .before .before .before .before .before .before .slow3 .ensures) (c .before .before .before .before .before .take3 .ensures) (c .before .before .before .before .before .before .leave .ensures .0) (c .enter .ensures)
 
 pub route-spec : {M : Type 1} → statement M
 route-spec =
