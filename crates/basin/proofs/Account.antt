@@ -4,11 +4,11 @@ use mathlib.Core.Bool.{Bool, true, false, cond, true≢false}
 use mathlib.Core.List.{List, [], _∷_}
 use Prim.Native.Nat.{ℕ, suc, _+_, _*_, _<_}
 use native.Mathlib.Omega.{arith}
-use lib.Dec.{eqb}
 use lib.ListN.{getD}
 use borrow.Author.Tests.{eqb-false}
 use Rattle.common.specs.Weather.{calm}
 use Rattle.common.specs.declared.weather.Weather.{Weather}
+use Rattle.common.specs.Loops.{sumOf}
 use Rattle.common.proofs.Loops.{sum-same}
 use Rattle.forcing.specs.declared.list.Line.{Line}
 use Rattle.forcing.specs.List.{lineAt, weatherOf, reading, isInside, Inside}
@@ -21,65 +21,85 @@ use Rattle.basin.specs.declared.reach.Reach.{Reach}
 use Rattle.basin.specs.declared.state.Basin.{Basin}
 use Rattle.basin.specs.declared.file.Loaded.{Loaded}
 use Rattle.basin.specs.declared.step.Outcome.{Outcome}
-use Rattle.basin.specs.State.{subAt, reachAt, contentOf}
-use Rattle.basin.specs.File.{fileN, fileM, fileSub, fileReach, fileBasin, loadCall}
-use Rattle.basin.specs.Step.{rainVolume, taken, refusedStep, answered, stepCall}
-use Rattle.basin.specs.Account.{Call, results, lastBasin, losses, rainOfLines, rains, ruleAfter, Follows, AllFollow, Capacities, Demand3}
+use Rattle.basin.specs.State.{subAt, reachAt, contentOf, Unchanged}
+use Rattle.basin.specs.File.{fileN, fileM, fileSub, fileReach, fileBasin, loadCall, FileIn}
+use Rattle.basin.specs.Step.{rainVolume, taken, refusedStep, stepCall}
+use Rattle.basin.specs.Account.{Call, results, lastBasin, losses, rainOfLines, rains, readingOf, ruleAfter, Follows, AllFollow, Capacities, Demand3}
 use Rattle.basin.proofs.reach.ReachLaws.{ReachWords, blank-reach-blank}
-use Rattle.basin.proofs.file.LoadedLaws.{FileIn, load-limits, load-holds-file, file-sub-words, file-reach-words, file-subs-length, file-reaches-length}
+use Rattle.basin.proofs.file.LoadedLaws.{load-limits, load-holds-file, file-sub-words, file-reach-words, file-subs-length, file-reaches-length}
 use Rattle.basin.proofs.file.LoadedLaws.{file-sub, file-sub-past, file-reach, file-reach-past, file-sub-empty, file-reach-empty}
 use Rattle.basin.proofs.network.CapLaws.{held-empty}
-use Rattle.basin.proofs.step.StepLaws.{Unchanged, reading-weathers, step-balance, after-unchanged}
+use Rattle.basin.proofs.step.CallLaws.{call-inside, call-outside}
+use Rattle.basin.proofs.step.StepLaws.{reading-weathers, step-balance, after-unchanged}
 use Rattle.basin.proofs.Sound.{capsIn, SoundBasin, sound-allowed, sound-basin-in, sound-shaped, sound-after}
 
 -- ---- rain
 
+-- by a basin's own areas
+unfoldable rainOver : Basin → List Line → ℕ
+rainOver b lines = sumOf (λ i. subAt b i .fixed .area * weatherOf (lineAt lines i) .rain) (b .n)
+
+unfoldable rainsOver : Basin → List Call → ℕ
+rainsOver b [] = 0
+rainsOver b (c ∷ cs) = cond (isInside (c .lines) (c .count) (b .n)) (rainOver b (c .lines)) 0 + rainsOver b cs
+
 -- the reported rain is that of the lines' own numbers
 rain-reported : (b : Basin) → SoundBasin b → (lines : List Line) (count : ℕ) → Inside lines count (b .n)
-    → rainVolume b (reading lines count (b .n) .weather) ≡ rainOfLines b lines
-unfolding rainVolume rainOfLines
+    → rainVolume b (reading lines count (b .n) .weather) ≡ rainOver b lines
+unfolding rainVolume rainOver
 rain-reported b h lines count i =
     sum-same (λ k. subAt b k .fixed .area * getD (reading lines count (b .n) .weather) k calm .rain) (λ k. subAt b k .fixed .area * weatherOf (lineAt lines k) .rain) (b .n)
     (λ k l.
     ap (λ (w : Weather). subAt b k .fixed .area * w .rain) (weather-at lines count (b .n) (h .n-most) (inside-accepted lines count (b .n) i) k l))
 
 -- rain goes by the areas, which no step changes
-rain-same : (b b′ : Basin) → Unchanged b b′ → (lines : List Line) → rainOfLines b′ lines ≡ rainOfLines b lines
-unfolding rainOfLines
+rain-same : (b b′ : Basin) → Unchanged b b′ → (lines : List Line) → rainOver b′ lines ≡ rainOver b lines
+unfolding rainOver
 rain-same b b′ u lines =
     rw (u .n-same)
     (sum-same (λ i. subAt b′ i .fixed .area * weatherOf (lineAt lines i) .rain) (λ i. subAt b i .fixed .area * weatherOf (lineAt lines i) .rain) (b .n)
     (λ i l. ap (λ (p : Parameters). p .area * weatherOf (lineAt lines i) .rain) (u .fixed-same i)))
 
-rains-same : (b b′ : Basin) → Unchanged b b′ → (calls : List Call) → rains b′ calls ≡ rains b calls
-unfolding rains
+rains-same : (b b′ : Basin) → Unchanged b b′ → (calls : List Call) → rainsOver b′ calls ≡ rainsOver b calls
+unfolding rainsOver
 rains-same b b′ u [] = refl
 rains-same b b′ u (c ∷ cs) = rw (rain-same b b′ u (c .lines), rains-same b b′ u cs, u .n-same)
+
+-- the areas of the basin that the file's words give are the file's
+rain-of-file : (f : List ℕ) → FileIn f → (lines : List Line) → rainOver (fileBasin f) lines ≡ rainOfLines f lines
+unfolding rainOver rainOfLines fileBasin
+rain-of-file f h lines =
+    sum-same (λ i. subAt (fileBasin f) i .fixed .area * weatherOf (lineAt lines i) .rain) (λ i. fileSub f i .fixed .area * weatherOf (lineAt lines i) .rain) (fileN f)
+    (λ i l. ap (λ (s : SubBasin). s .fixed .area * weatherOf (lineAt lines i) .rain) (file-sub f i l (h .n-most)))
+
+rains-of-file : (f : List ℕ) → FileIn f → (calls : List Call) → rainsOver (fileBasin f) calls ≡ rains f calls
+unfolding rainsOver rains fileBasin
+rains-of-file f h [] = refl
+rains-of-file f h (c ∷ cs) = rw (rain-of-file f h (c .lines), rains-of-file f h cs)
 
 -- ---- one call
 
 -- its outcome, where the forcing is inside the limits and where it is not; 9 is never met
 call-cases : (P : Outcome → Type 0) (b : Basin) → SoundBasin b → (lines : List Line) (count : ℕ)
     → (Inside lines count (b .n) → P (taken b (reading lines count (b .n))))
-    → (isInside lines count (b .n) ≡ false → (number place : ℕ) → (number ≡ 0 → ⊥) → P (refusedStep b number place))
+    → (isInside lines count (b .n) ≡ false → (reading lines count (b .n) .number ≡ 0 → ⊥)
+    → P (refusedStep b (reading lines count (b .n) .number) (reading lines count (b .n) .place)))
     → P (stepCall b lines count)
-unfolding stepCall answered
-call-cases P b h lines count accepted refused = rw (sound-allowed b h) (go (eqb (reading lines count (b .n) .number) 0) refl)
+call-cases P b h lines count accepted refused = go (isInside lines count (b .n)) refl
   where
-    go : (t : Bool) → eqb (reading lines count (b .n) .number) 0 ≡ t
-        → P (cond t (taken b (reading lines count (b .n))) (refusedStep b (reading lines count (b .n) .number) (reading lines count (b .n) .place)))
-    go true e = accepted (test-inside (sym (accepted-test lines count (b .n)) ∙ e))
-    go false e =
-        refused (sym (accepted-test lines count (b .n)) ∙ e) (reading lines count (b .n) .number) (reading lines count (b .n) .place)
-        (eqb-false (reading lines count (b .n) .number) 0 e)
+    go : (t : Bool) → isInside lines count (b .n) ≡ t → P (stepCall b lines count)
+    go true i = rw (call-inside b lines count (sound-allowed b h) i) (accepted (test-inside i))
+    go false i =
+        rw (call-outside b lines count (sound-allowed b h) i)
+        (refused i (eqb-false (reading lines count (b .n) .number) 0 (accepted-test lines count (b .n) ∙ i)))
 
 -- what one call leaves: a basin that 9 allows and that has the same words, the balance, and the rule's own outcome
 record Entry (b : Basin) (c : Call) (o : Outcome) : Type 0 where
+  follows : Follows b b c o
   kept : SoundBasin (o .basin)
   unchanged : Unchanged b (o .basin)
   balance : contentOf (o .basin) + (o .report .evapotranspiration + o .report .outlet)
-      ≡ contentOf b + cond (isInside (c .lines) (c .count) (b .n)) (rainOfLines b (c .lines)) 0
-  follows : Follows b b c o
+      ≡ contentOf b + cond (isInside (c .lines) (c .count) (b .n)) (rainOver b (c .lines)) 0
   ruled : ruleAfter b c ≡ o .basin
 
 unchanged-refl : (b : Basin) → Unchanged b b
@@ -106,40 +126,41 @@ unchanged-trans u v =
           };
     }
 
-entry-accepted : (b : Basin) → SoundBasin b → (c : Call) → Inside (c .lines) (c .count) (b .n) → Entry b c (taken b (reading (c .lines) (c .count) (b .n)))
+entry-accepted : (b : Basin) → SoundBasin b → (c : Call) → Inside (c .lines) (c .count) (b .n) → Entry b c (taken b (readingOf (b .n) c))
 unfolding ruleAfter taken
 entry-accepted b h c i =
     let ws = reading (c .lines) (c .count) (b .n) .weather in
     let k = reading-weathers (c .lines) (c .count) (b .n) in
     record {
+      follows =
+          record {
+            accepted = (λ e. inside-test i, λ t. refl);
+            as-ruled = λ t. refl;
+            refused = λ t. absurd (true≢false (sym (inside-test i) ∙ t));
+            told = λ t. absurd (true≢false (sym (inside-test i) ∙ t));
+          };
       kept = sound-after b ws h k;
       unchanged = after-unchanged b ws (sound-basin-in b h) (sound-shaped b h) k;
       balance =
           rw (inside-test i) (omega (arith, step-balance b ws (sound-basin-in b h) (sound-shaped b h) k, rain-reported b h (c .lines) (c .count) i));
-      follows =
-          record {
-            accepted = (λ e. i, λ j. refl);
-            as-ruled = λ j. refl;
-            unchanged = λ n. absurd (n i);
-          };
       ruled = rw (inside-test i);
     }
 
-entry-refused : (b : Basin) → SoundBasin b → (c : Call) → isInside (c .lines) (c .count) (b .n) ≡ false → (number place : ℕ) → (number ≡ 0 → ⊥)
-    → Entry b c (refusedStep b number place)
+entry-refused : (b : Basin) → SoundBasin b → (c : Call) → isInside (c .lines) (c .count) (b .n) ≡ false → (readingOf (b .n) c .number ≡ 0 → ⊥)
+    → Entry b c (refusedStep b (readingOf (b .n) c .number) (readingOf (b .n) c .place))
 unfolding ruleAfter
-entry-refused b h c t number place n =
-    let out : Inside (c .lines) (c .count) (b .n) → ⊥ = λ i. true≢false (sym (inside-test i) ∙ t) in
+entry-refused b h c t n =
     record {
+      follows =
+          record {
+            accepted = (λ e. absurd (n e), λ u. absurd (true≢false (sym u ∙ t)));
+            as-ruled = λ u. absurd (true≢false (sym u ∙ t));
+            refused = λ u. record { unchanged = refl; reports-zeros = refl };
+            told = λ u. (refl, refl);
+          };
       kept = h;
       unchanged = unchanged-refl b;
       balance = rw t (omega arith);
-      follows =
-          record {
-            accepted = (λ e. absurd (n e), λ i. absurd (out i));
-            as-ruled = λ i. absurd (out i);
-            unchanged = λ m. refl;
-          };
       ruled = rw t;
     }
 
@@ -160,8 +181,8 @@ unchanged-last b h (c ∷ cs) =
     let t = entry b h c in
     unchanged-trans (t .unchanged) (unchanged-last (stepCall b (c .lines) (c .count) .basin) (t .kept) cs)
 
-list-balances : (b : Basin) → SoundBasin b → (calls : List Call) → contentOf (lastBasin b calls) + losses (results b calls) ≡ contentOf b + rains b calls
-unfolding lastBasin results losses rains
+list-balances : (b : Basin) → SoundBasin b → (calls : List Call) → contentOf (lastBasin b calls) + losses (results b calls) ≡ contentOf b + rainsOver b calls
+unfolding lastBasin results losses rainsOver
 list-balances b h [] = refl
 list-balances b h (c ∷ cs) =
     let t = entry b h c in
@@ -183,11 +204,6 @@ capacities-of file now e h =
     let dm : now .fixed .dm ≡ file .fixed .dm = ap (λ p. p .dm) e in
     let sm : now .fixed .sm ≡ file .fixed .sm = ap (λ p. p .sm) e in
     omega arith
-
-list-capacities : (b : Basin) → SoundBasin b → (calls : List Call) (i : ℕ) → i < b .n → Capacities (subAt b i) (subAt (lastBasin b calls) i)
-list-capacities b h calls i l =
-    let u = unchanged-last b h calls in
-    capacities-of (subAt b i) (subAt (lastBasin b calls) i) (u .fixed-same i) (sound-last b h calls .sound-subs i (omega (arith, u .n-same)))
 
 -- ---- the file
 
@@ -214,10 +230,25 @@ file-sound f h =
           (λ j l. ap (λ (r : Reach). r .content) (reach j l) ∙ file-reach-empty f (fileN f) j);
     }
 
+list-capacities : (f : List ℕ) → FileIn f → (calls : List Call) (i : ℕ) → i < fileN f → Capacities (fileSub f i) (subAt (lastBasin (fileBasin f) calls) i)
+unfolding fileBasin
+list-capacities f limits calls i l =
+    let h = file-sound f limits in
+    let u = unchanged-last (fileBasin f) h calls in
+    capacities-of (fileSub f i) (subAt (lastBasin (fileBasin f) calls) i)
+    (u .fixed-same i ∙ ap (λ (s : SubBasin). s .fixed) (file-sub f i l (limits .n-most)))
+    (sound-last (fileBasin f) h calls .sound-subs i (omega (arith, u .n-same)))
+
 -- demand 3, of any file and the answer of its load
 pub demand-3 : (f : List ℕ) {loaded : Loaded} → loaded ≡ loadCall f → Demand3 f loaded
 demand-3 f {loaded} e z calls =
     let accepted : loadCall f .number ≡ 0 = sym (ap (λ (l : Loaded). l .number) e) ∙ z in
-    let h = file-sound f (load-limits f accepted) in
+    let limits = load-limits f accepted in
+    let h = file-sound f limits in
     rw (e, load-holds-file f accepted)
-    (record { balance = list-balances (fileBasin f) h calls; capacities = list-capacities (fileBasin f) h calls; follows = list-follows (fileBasin f) h calls })
+    (record {
+      balance = list-balances (fileBasin f) h calls ∙ ap (λ (rain : ℕ). contentOf (fileBasin f) + rain) (rains-of-file f limits calls);
+      throughout = unchanged-last (fileBasin f) h calls;
+      capacities = list-capacities f limits calls;
+      follows = list-follows (fileBasin f) h calls;
+    })

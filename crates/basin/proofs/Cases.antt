@@ -1,24 +1,27 @@
--- Case A of document 01: its file is accepted, and its three steps over the definitions give the lines that the document prints.
--- So demand 3 is about something. Assumes nothing.
-use mathlib.Core.Path.{_≡_, refl, ap}
-use mathlib.Core.Bool.{true}
+-- Case A of document 01: its file is accepted, and from demand 3 follow the lines that the document prints and the figures of the account. So
+-- demand 3 is about something. Then the table of all proved cases. Assumes nothing.
+use mathlib.Core.Path.{_≡_, refl, ap, _∙_}
 use mathlib.Core.List.{List, [], _∷_, _++_}
+use Prim.Native.Nat.{ℕ, _+_}
+use native.Mathlib.Omega.{arith}
 use lib.ListN.{replicate}
 use lib.Ieee.{ofBits}
-use Rattle.common.specs.Limits.{firstOut, wordsIn}
-use Rattle.common.specs.Amounts.{sum, allUpTo}
+use Rattle.common.specs.Limits.{firstOut}
+use Rattle.common.specs.Amounts.{sum}
 use Rattle.common.specs.Loops.{run, filled, sumOf, every, firstBad}
 use Rattle.common.specs.Bytes.{wordAt}
+use Rattle.common.specs.Weather.{calm}
 use Rattle.common.specs.Cases.{Row, Agree}
 use Rattle.curve.specs.Store.{outflow, content}
 use Rattle.curve.specs.Cases.{curveCases}
 use Rattle.curve.proofs.Cases.{curve-cases}
-use Rattle.forcing.specs.Depth.{numerator, denominator, nearest, depthOf, unfit, aboveLimit, numberOf}
-use Rattle.forcing.specs.List.{weatherOf, lineNumber, refusal, judgedLines, reading}
+use Rattle.forcing.specs.declared.list.Forcing.{Forcing}
+use Rattle.forcing.specs.Depth.{numerator, denominator, nearest, depthOf, fromZeroTo, unfit, aboveLimit, numberOf}
+use Rattle.forcing.specs.List.{weatherOf, lineInside, isInside, lineNumber, refusal, judgedLines, reading}
 use Rattle.forcing.proofs.Cases.{sixteenth}
 use Rattle.subbasin.specs.declared.record.SubBasin.{SubBasin}
-use Rattle.subbasin.specs.Record.{blankSub, isBlank, recordIn}
-use Rattle.subbasin.specs.Lag.{lineIn, leaving, waitingAfter, entered}
+use Rattle.subbasin.specs.Record.{blankSub}
+use Rattle.subbasin.specs.Lag.{leaving, waitingAfter, entered}
 use Rattle.subbasin.specs.Content.{water}
 use Rattle.subbasin.specs.Soil.{ep, deeper, evaporated, runoff}
 use Rattle.subbasin.specs.FreeWater.{keep, parted}
@@ -26,16 +29,16 @@ use Rattle.subbasin.specs.Step.{stepped}
 use Rattle.subbasin.specs.Cases.{case-a, stepCases}
 use Rattle.subbasin.proofs.Cases.{step-a, step-cases}
 use Rattle.basin.specs.declared.state.Basin.{Basin}
+use Rattle.basin.specs.declared.step.Report.{Report}
 use Rattle.basin.specs.declared.step.Outcome.{Outcome}
-use Rattle.basin.specs.Reach.{blankReach, isBlankReach}
+use Rattle.basin.specs.Reach.{blankReach}
 use Rattle.basin.specs.State.{contentOf}
-use Rattle.basin.specs.Limits.{countsIn, subsUsed, subsBlank, reachesUsed, reachesBlank, othersIn, basinIn}
-use Rattle.basin.specs.File.{fileSub, fileReach, fileBasin, subWords, reachesWords, loadWords, loadLength, loadCounts, loadCall}
+use Rattle.basin.specs.File.{fileN, fileSub, fileReach, fileBasin, subWords, reachesWords, loadWords, loadLength, loadCounts, loadCall}
 use Rattle.basin.specs.Network.{send, flows, reachesAfter}
-use Rattle.basin.specs.Step.{sentBy, basinAfter, rainVolume, lossVolume, outletVolume, taken, answered, stepCall}
-use Rattle.basin.specs.Account.{results, Accounted}
-use Rattle.basin.specs.Cases.{file-a, call-1, call-2, call-3, calls-a, depthCases, outcomeCases, provedCases}
-use Rattle.basin.proofs.Account.{demand-3}
+use Rattle.basin.specs.Step.{sentBy, basinAfter, rainVolume, lossVolume, outletVolume, taken, stepCall}
+use Rattle.basin.specs.Account.{Call, results, losses, rainOfLines, rains, Accounted}
+use Rattle.basin.specs.Cases.{file-a, call-1, call-2, call-3, calls-a, depthCases, outcomeCases, provedCases, reported, Says, Always, Gives, figures-a}
+use Rattle.basin.proofs.CaseSteps.{accepted-next, refused-next, held-to, said, of-load}
 
 -- the sub-basin after the first step, and after the third
 abbrev after-1 : SubBasin
@@ -60,13 +63,31 @@ after-3 =
 abbrev basin-of : SubBasin → Basin
 basin-of s = record { n = 1; m = 0; subs = s ∷ replicate 31 blankSub; reaches = replicate 31 blankReach }
 
-pub load-a : loadCall file-a ≡ record { number = 0; place = 0; basin = basin-of case-a }
+load-a : loadCall file-a .number ≡ 0
 unfolding loadCall loadCounts loadLength loadWords firstOut fileBasin filled fileSub fileReach subWords reachesWords wordAt
 load-a = refl
 
+file-basin-a : fileBasin file-a ≡ basin-of case-a
+unfolding fileBasin filled fileSub fileReach wordAt
+file-basin-a = refl
+
+file-sub-a : fileSub file-a 0 ≡ case-a
+unfolding fileSub filled wordAt
+file-sub-a = refl
+
+file-n-a : fileN file-a ≡ 1
+unfolding wordAt
+file-n-a = refl
+
 -- ---- the three calls
 
-reading-1 : reading (call-1 .lines) 1 1 ≡ record { number = 0; place = 0; estimated = 0; weather = record { rain = 135000; pan = 0 } ∷ replicate 31 (record { rain = 0; pan = 0 }) }
+abbrev forcing-1 : Forcing
+forcing-1 = record { number = 0; place = 0; estimated = 0; weather = record { rain = 135000; pan = 0 } ∷ replicate 31 calm }
+
+abbrev forcing-3 : Forcing
+forcing-3 = record { number = 0; place = 0; estimated = 0; weather = record { rain = 0; pan = 10000 } ∷ replicate 31 calm }
+
+reading-1 : reading (call-1 .lines) 1 1 ≡ forcing-1
 unfolding ofBits numberOf unfit aboveLimit depthOf nearest numerator denominator lineNumber weatherOf firstBad sumOf filled judgedLines reading
 reading-1 = refl
 
@@ -74,7 +95,7 @@ reading-2 : reading (call-2 .lines) 1 1 ≡ refusal 6 1
 unfolding ofBits numberOf unfit aboveLimit depthOf nearest numerator denominator lineNumber weatherOf firstBad sumOf filled judgedLines reading
 reading-2 = refl
 
-reading-3 : reading (call-3 .lines) 1 1 ≡ record { number = 0; place = 0; estimated = 0; weather = record { rain = 0; pan = 10000 } ∷ replicate 31 (record { rain = 0; pan = 0 }) }
+reading-3 : reading (call-3 .lines) 1 1 ≡ forcing-3
 unfolding ofBits numberOf unfit aboveLimit depthOf nearest numerator denominator lineNumber weatherOf firstBad sumOf filled judgedLines reading
 reading-3 = refl
 
@@ -100,59 +121,68 @@ step-3 = refl
 -- ---- what the calls hand back: `1 ok 135000 0 26666 108334 0`, `2 refused 6 1`, `3 ok 0 10000 1110 97224 0`
 
 abbrev outcome-1 : Outcome
-outcome-1 =
-    record {
-      number = 0;
-      place = 0;
-      basin = basin-of after-1;
-      report = record { rain = 135000; evapotranspiration = 0; outlet = 26666; content = 108334; estimated = 0 };
-    }
+outcome-1 = record { number = 0; place = 0; basin = basin-of after-1; report = reported 135000 0 26666 108334 0 }
 
 abbrev outcome-2 : Outcome
-outcome-2 =
-    record {
-      number = 6;
-      place = 1;
-      basin = basin-of after-1;
-      report = record { rain = 0; evapotranspiration = 0; outlet = 0; content = 0; estimated = 0 };
-    }
+outcome-2 = record { number = 6; place = 1; basin = basin-of after-1; report = reported 0 0 0 0 0 }
 
 abbrev outcome-3 : Outcome
-outcome-3 =
+outcome-3 = record { number = 0; place = 0; basin = basin-of after-3; report = reported 0 10000 1110 97224 0 }
+
+taken-1 : taken (basin-of case-a) forcing-1 ≡ outcome-1
+unfolding taken basinAfter sentBy rainVolume lossVolume outletVolume contentOf run filled sumOf send flows reachesAfter water sum
+taken-1 = rw step-a
+
+taken-3 : taken (basin-of after-1) forcing-3 ≡ outcome-3
+unfolding taken basinAfter sentBy rainVolume lossVolume outletVolume contentOf run filled sumOf send flows reachesAfter water sum
+taken-3 = rw step-3
+
+results-a : (b : Basin) → Accounted file-a b calls-a → results b calls-a ≡ outcome-1 ∷ outcome-2 ∷ outcome-3 ∷ []
+unfolding results
+results-a b h =
+    let o1 : Outcome = stepCall b (call-1 .lines) 1 in
+    let o2 : Outcome = stepCall (o1 .basin) (call-2 .lines) 1 in
+    let o3 : Outcome = stepCall (o2 .basin) (call-3 .lines) 1 in
+    let first =
+    accepted-next (basin-of case-a) b call-1 (call-2 ∷ call-3 ∷ []) o1 (o2 ∷ o3 ∷ []) (rw (← file-basin-a) (h .follows)) forcing-1 reading-1 refl outcome-1
+    taken-1
+    in
+    let second = refused-next (basin-of after-1) (basin-of after-1) call-2 (call-3 ∷ []) o2 (o3 ∷ []) (first .1) 6 1 reading-2 refl in
+    let third = accepted-next (basin-of after-1) (basin-of after-1) call-3 [] o3 [] (second .1) forcing-3 reading-3 refl outcome-3 taken-3 in
+    ap (λ (o : Outcome). o ∷ o2 ∷ o3 ∷ []) (first .0)
+    ∙ ap (λ (o : Outcome). outcome-1 ∷ o ∷ o3 ∷ []) (second .0)
+    ∙ ap (λ (o : Outcome). outcome-1 ∷ outcome-2 ∷ o ∷ []) (third .0)
+
+-- ---- the figures
+
+started-a : contentOf (fileBasin file-a) ≡ 0
+unfolding contentOf sumOf water sum
+started-a = rw file-basin-a
+
+rained-a : rains file-a calls-a ≡ 135000
+unfolding rains rainOfLines isInside lineInside fromZeroTo every sumOf weatherOf ofBits depthOf nearest numerator denominator fileSub filled wordAt
+rained-a = refl
+
+lost-a : losses (outcome-1 ∷ outcome-2 ∷ outcome-3 ∷ []) ≡ 37776
+unfolding losses
+lost-a = refl
+
+-- 97,224 + 37,776 = 0 + 135,000
+figures-said : (b : Basin) → Accounted file-a b calls-a → Says file-a calls-a figures-a b
+figures-said b h =
+    said file-a calls-a b h figures-a (outcome-1 ∷ outcome-2 ∷ outcome-3 ∷ []) (results-a b h) refl started-a rained-a lost-a refl refl refl
+
+always-a : (b : Basin) (calls : List Call) → Accounted file-a b calls → Always file-a figures-a b calls
+always-a b calls h =
     record {
-      number = 0;
-      place = 0;
-      basin = basin-of after-3;
-      report = record { rain = 0; evapotranspiration = 10000; outlet = 1110; content = 97224; estimated = 0 };
+      balance-is = h .balance ∙ ap (λ (k : ℕ). k + rains file-a calls) started-a;
+      within-bounds = (held-to file-a calls b h 0 (omega (arith, file-n-a)) case-a file-sub-a (rw file-basin-a), tt);
     }
 
-allowed-a : basinIn (basin-of case-a) ≡ true
-unfolding basinIn othersIn countsIn subsUsed subsBlank reachesUsed reachesBlank every recordIn isBlank isBlankReach lineIn allUpTo wordsIn
-allowed-a = refl
-
-allowed-1 : basinIn (basin-of after-1) ≡ true
-unfolding basinIn othersIn countsIn subsUsed subsBlank reachesUsed reachesBlank every recordIn isBlank isBlankReach lineIn allUpTo wordsIn
-allowed-1 = refl
-
-first-is : stepCall (basin-of case-a) (call-1 .lines) 1 ≡ outcome-1
-unfolding stepCall answered taken basinAfter sentBy rainVolume lossVolume outletVolume contentOf run filled sumOf send flows reachesAfter water sum
-first-is = rw (allowed-a, reading-1, step-a)
-
-second-is : stepCall (basin-of after-1) (call-2 .lines) 1 ≡ outcome-2
-unfolding stepCall answered
-second-is = rw (allowed-1, reading-2)
-
-third-is : stepCall (basin-of after-1) (call-3 .lines) 1 ≡ outcome-3
-unfolding stepCall answered taken basinAfter sentBy rainVolume lossVolume outletVolume contentOf run filled sumOf send flows reachesAfter water sum
-third-is = rw (allowed-1, reading-3, step-3)
-
-pub results-a : results (loadCall file-a .basin) calls-a ≡ outcome-1 ∷ outcome-2 ∷ outcome-3 ∷ []
-unfolding results
-results-a = rw (load-a, first-is, second-is, third-is)
-
--- demand 3 of this file and these calls: 97,224 + 26,666 + 10,000 + 1,110 = 0 + 135,000
-pub account-a : Accounted (fileBasin file-a) (loadCall file-a .basin) calls-a
-account-a = demand-3 file-a refl (ap (λ l. l .number) load-a) calls-a
+pub account-a : Gives file-a calls-a figures-a
+account-a =
+    of-load file-a calls-a figures-a load-a
+    (λ loaded d z. (figures-said (loaded .basin) (d z calls-a), λ calls. always-a (loaded .basin) calls (d z calls)))
 
 -- ---- the table of document 01's proved cases
 
@@ -160,8 +190,13 @@ agree-append : (xs ys : List Row) → Agree xs → Agree ys → Agree (xs ++ ys)
 agree-append [] ys h k = k
 agree-append (x ∷ xs) ys h k = (h .0, agree-append xs ys (h .1) k)
 
-first-reported : stepCall (loadCall file-a .basin) (call-1 .lines) 1 ≡ outcome-1
-first-reported = rw load-a first-is
+first-reported : stepCall (loadCall file-a .basin) (call-1 .lines) 1 .report ≡ reported 135000 0 26666 108334 0
+unfolding results
+first-reported = ap first (account-a .says .reports-are)
+  where
+    first : List Report → Report
+    first [] = reported 0 0 0 0 0
+    first (r ∷ rs) = r
 
 outcome-cases : Agree outcomeCases
 outcome-cases = rw first-reported (refl, (refl, (refl, (refl, (refl, tt)))))

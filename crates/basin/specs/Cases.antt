@@ -1,38 +1,50 @@
--- Document 01, "What the program prints" and "Proved cases": case A's file and calls, and all proved cases as one table.
-use mathlib.Core.List.{List, [], _∷_, _++_}
-use Prim.Native.Nat.{ℕ}
+-- Document 01, "What the program prints" and "Proved cases": case A's file and calls, all proved cases as one table, and what demand 3
+-- says of case A and of a second case, in figures.
+use mathlib.Core.Path.{_≡_}
+use mathlib.Core.List.{List, [], _∷_, _++_, map}
+use Prim.Native.Nat.{ℕ, suc, _+_, _≤_}
 use lib.Ieee.{binary32, ofBits}
 use lib.ListN.{replicate}
 use Rattle.common.specs.Bytes.{bytesOf}
 use Rattle.common.specs.Cases.{Row, row}
 use Rattle.curve.specs.Cases.{curveCases}
-use Rattle.forcing.specs.declared.list.Reading.{Reading}
-use Rattle.forcing.specs.declared.list.Reading.the-variants.{Measured, Missing}
+use Rattle.forcing.specs.declared.list.Reading.the-variants.{Measured, Estimated}
+use Rattle.forcing.specs.declared.list.Line.{Line}
 use Rattle.forcing.specs.Depth.{depthOf}
 use Rattle.forcing.specs.List.{blank}
+use Rattle.subbasin.specs.declared.record.SubBasin.{SubBasin}
 use Rattle.subbasin.specs.Cases.{words-a, stepCases}
+use Rattle.basin.specs.declared.state.Basin.{Basin}
+use Rattle.basin.specs.declared.file.Loaded.{Loaded}
+use Rattle.basin.specs.declared.step.Report.{Report}
 use Rattle.basin.specs.declared.step.Outcome.{Outcome}
-use Rattle.basin.specs.File.{loadCall}
+use Rattle.basin.specs.State.{subAt, contentOf}
+use Rattle.basin.specs.File.{fileBasin, loadCall}
 use Rattle.basin.specs.Step.{stepCall}
-use Rattle.basin.specs.Account.{Call}
+use Rattle.basin.specs.Account.{Call, results, lastBasin, losses, rains, Demand3}
 
 -- N 1, M 0, then the sub-basin's words, as bytes
 abbrev pub file-a : List ℕ
 file-a = bytesOf (1 ∷ 0 ∷ words-a)
 
--- a call with one line, and the three of case A: rain 135 pan 0; missing; rain 0 pan 10
+-- a line by its numbers' bits, and the three calls of case A: rain 135 pan 0; missing; rain 0 pan 10
+abbrev pub measured : ℕ → ℕ → Line
+measured rain pan = record { rain = Measured (ofBits binary32 rain); pan = ofBits binary32 pan }
 
-abbrev pub called : Reading → ℕ → Call
-called rain pan = record { lines = record { rain = rain; pan = ofBits binary32 pan } ∷ replicate 31 blank; count = 1 }
+abbrev pub estimated : ℕ → ℕ → Line
+estimated rain pan = record { rain = Estimated (ofBits binary32 rain); pan = ofBits binary32 pan }
+
+abbrev pub called : Line → Call
+called l = record { lines = l ∷ replicate 31 blank; count = 1 }
 
 abbrev pub call-1 : Call
-call-1 = called (Measured (ofBits binary32 0x4307_0000)) 0
+call-1 = called (measured 0x4307_0000 0)
 
 abbrev pub call-2 : Call
-call-2 = called Missing 0
+call-2 = called blank
 
 abbrev pub call-3 : Call
-call-3 = called (Measured (ofBits binary32 0)) 0x4120_0000
+call-3 = called (measured 0 0x4120_0000)
 
 abbrev pub calls-a : List Call
 calls-a = call-1 ∷ call-2 ∷ call-3 ∷ []
@@ -57,3 +69,134 @@ outcomeCases =
 -- all proved cases
 abbrev pub provedCases : List Row
 provedCases = curveCases ++ depthCases ++ stepCases ++ outcomeCases
+
+-- ---- demand 3 in figures
+
+-- a sub-basin's area and capacities
+pub record Bounds : Type 0 where
+  pub area : ℕ
+  pub um : ℕ
+  pub lm : ℕ
+  pub dm : ℕ
+  pub sm : ℕ
+
+-- the file's water, the rain of the lines, what was reported as lost and the water at the end, in m³; each outcome; each sub-basin's bounds
+pub record Figures : Type 0 where
+  pub started : ℕ
+  pub rained : ℕ
+  pub lost : ℕ
+  pub left : ℕ
+  pub numbers : List ℕ
+  pub places : List ℕ
+  pub reports : List Report
+  pub bounds : List Bounds
+
+-- a sub-basin has this area, and its soil stores hold at most these capacities
+pub record HeldTo (x : Bounds) (s : SubBasin) : Type 0 where
+  pub area-is : s .fixed .area ≡ x .area
+  pub wu-most : s .contents .wu ≤ x .um
+  pub wl-most : s .contents .wl ≤ x .lm
+  pub wd-most : s .contents .wd ≤ x .dm
+  pub g-most : s .contents .g ≤ x .sm
+
+-- and so of sub-basins i, i + 1, ..
+abbrev pub Bounded : List Bounds → ℕ → Basin → Type 0
+Bounded [] i b = Unit {0}
+Bounded (x ∷ xs) i b = HeldTo x (subAt b i) × Bounded xs (suc i) b
+
+-- what is said of a file, a list of calls and the basin that the load handed back
+pub record Says (f : List ℕ) (calls : List Call) (x : Figures) (loaded : Basin) : Type 0 where
+  pub balanced : x .left + x .lost ≡ x .started + x .rained
+  pub started-is : contentOf (fileBasin f) ≡ x .started
+  pub rained-is : rains f calls ≡ x .rained
+  pub lost-is : losses (results loaded calls) ≡ x .lost
+  pub left-is : contentOf (lastBasin loaded calls) ≡ x .left
+  pub numbers-are : map (λ o. o .number) (results loaded calls) ≡ x .numbers
+  pub places-are : map (λ o. o .place) (results loaded calls) ≡ x .places
+  pub reports-are : map (λ o. o .report) (results loaded calls) ≡ x .reports
+
+-- and of every list of calls from that basin, the empty one too: the balance from the file's water, the areas and the capacities
+pub record Always (f : List ℕ) (x : Figures) (loaded : Basin) (calls : List Call) : Type 0 where
+  pub balance-is : contentOf (lastBasin loaded calls) + losses (results loaded calls) ≡ x .started + rains f calls
+  pub within-bounds : Bounded (x .bounds) 0 (lastBasin loaded calls)
+
+-- The file is accepted, these figures are those of its load, and they follow from demand 3 alone, whatever answer it is said of: a statement
+-- that says less doesn't give them.
+pub record Gives (f : List ℕ) (calls : List Call) (x : Figures) : Type 0 where
+  pub accepted : loadCall f .number ≡ 0
+  pub says : Says f calls x (loadCall f .basin)
+  pub follows : (loaded : Loaded) → Demand3 f loaded → loaded .number ≡ 0
+      → Says f calls x (loaded .basin) × ((others : List Call) → Always f x (loaded .basin) others)
+
+abbrev pub reported : ℕ → ℕ → ℕ → ℕ → ℕ → Report
+reported rain evapotranspiration outlet content estimated =
+    record { rain = rain; evapotranspiration = evapotranspiration; outlet = outlet; content = content; estimated = estimated }
+
+-- case A
+abbrev pub figures-a : Figures
+figures-a =
+    record {
+      started = 0;
+      rained = 135000;
+      lost = 37776;
+      left = 97224;
+      numbers = 0 ∷ 6 ∷ 0 ∷ [];
+      places = 0 ∷ 1 ∷ 0 ∷ [];
+      reports = reported 135000 0 26666 108334 0 ∷ reported 0 0 0 0 0 ∷ reported 0 10000 1110 97224 0 ∷ [];
+      bounds = record { area = 1; um = 20000; lm = 60000; dm = 40000; sm = 20000 } ∷ [];
+    }
+
+-- Case B: two sub-basins, the first above a reach, and no two shares alike; its figures come from the second model.
+abbrev pub words-b1 : List ℕ
+words-b1 =
+    7 ∷ 52429 ∷ 12000 ∷ 80000 ∷ 45000 ∷ 13107 ∷ 20 ∷ 6554 ∷ 18000 ∷ 26 ∷ 16384 ∷ 11469 ∷ 36045 ∷ 60293 ∷ 29491 ∷ 1 ∷ 1
+    ∷ 9000 ∷ 1000 ∷ 30000 ∷ 2500 ∷ 1200 ∷ 3400 ∷ []
+
+abbrev pub words-b2 : List ℕ
+words-b2 =
+    3 ∷ 58982 ∷ 15000 ∷ 70000 ∷ 50000 ∷ 8520 ∷ 22 ∷ 3277 ∷ 25000 ∷ 28 ∷ 9830 ∷ 22938 ∷ 49152 ∷ 63570 ∷ 19661 ∷ 2 ∷ 0
+    ∷ 5000 ∷ 30000 ∷ 20000 ∷ 1000 ∷ 700 ∷ 900 ∷ []
+
+abbrev pub file-b : List ℕ
+file-b = bytesOf (2 ∷ 1 ∷ words-b1 ++ words-b2 ++ (14418 ∷ 32768 ∷ 0 ∷ []))
+
+abbrev pub both-called : Line → Line → Call
+both-called l k = record { lines = l ∷ k ∷ replicate 30 blank; count = 2 }
+
+-- rain 1 pan 30 and rain 120.5 pan 3; rain 12 pan 1 and a missing one; estimated 140 pan 4 and rain 1.5 pan 40; rain 0 pan 2.5 and
+-- estimated 25.25 pan 0.5
+abbrev pub call-b1 : Call
+call-b1 = both-called (measured 0x3f80_0000 0x41f0_0000) (measured 0x42f1_0000 0x4040_0000)
+
+abbrev pub call-b2 : Call
+call-b2 = both-called (measured 0x4140_0000 0x3f80_0000) blank
+
+abbrev pub call-b3 : Call
+call-b3 = both-called (estimated 0x430c_0000 0x4080_0000) (measured 0x3fc0_0000 0x4220_0000)
+
+abbrev pub call-b4 : Call
+call-b4 = both-called (measured 0 0x4020_0000) (estimated 0x41ca_0000 0x3f00_0000)
+
+abbrev pub calls-b : List Call
+calls-b = call-b1 ∷ call-b2 ∷ call-b3 ∷ call-b4 ∷ []
+
+abbrev pub figures-b : Figures
+figures-b =
+    record {
+      started = 502500;
+      rained = 1428750;
+      lost = 353578;
+      left = 1577672;
+      numbers = 0 ∷ 6 ∷ 0 ∷ 0 ∷ [];
+      places = 0 ∷ 2 ∷ 0 ∷ 0 ∷ [];
+      reports =
+          reported 368500 97690 0 773310 0
+          ∷ reported 0 0 0 0 0
+          ∷ reported 984500 130397 954 1626459 1
+          ∷ reported 75750 15347 109190 1577672 1
+          ∷ [];
+      bounds =
+          record { area = 7; um = 12000; lm = 80000; dm = 45000; sm = 18000 }
+          ∷ record { area = 3; um = 15000; lm = 70000; dm = 50000; sm = 25000 }
+          ∷ [];
+    }

@@ -1,19 +1,20 @@
 -- Document 01, "The basin file", and 1 to 4 of "Who sent it".
-use Prim.Native.Nat.{ℕ, zero, suc, _+_, _*_}
-use mathlib.Core.Bool.{cond}
+use mathlib.Core.Path.{_≡_}
+use Prim.Native.Nat.{ℕ, zero, suc, _+_, _*_, _≤_, _<_}
+use mathlib.Core.Bool.{true, cond}
 use mathlib.Core.List.{List, [], _++_}
 use lib.Dec.{ltb, eqb}
-use lib.ListN.{length}
-use Rattle.common.specs.Limits.{within, Word, firstOut}
+use lib.ListN.{length, getD}
+use Rattle.common.specs.Limits.{within, Word, wordsIn, firstOut}
 use Rattle.common.specs.Loops.{table}
 use Rattle.common.specs.Bytes.{wordAt}
 use Rattle.subbasin.specs.declared.record.SubBasin.{SubBasin}
-use Rattle.subbasin.specs.Record.{wordCount, words, ofWords, blankSub, mostStart}
+use Rattle.subbasin.specs.Record.{wordCount, words, ofWords, wordsOf, blankSub, mostStart}
 use Rattle.basin.specs.declared.reach.Reach.{Reach}
 use Rattle.basin.specs.declared.state.Basin.{Basin}
 use Rattle.basin.specs.declared.file.Loaded.{Loaded}
-use Rattle.basin.specs.Reach.{reachWordCount, reachWords, blankReach}
-use Rattle.basin.specs.State.{mostSubs, mostReaches, emptyBasin}
+use Rattle.basin.specs.Reach.{reachWordCount, reachWords, reachWordsOf, blankReach}
+use Rattle.basin.specs.State.{mostSubs, mostReaches, subAt, reachAt, emptyBasin}
 
 -- "N, M, then 23 words a sub-basin, then 3 a reach"
 abbrev pub fileN : List ℕ → ℕ
@@ -83,5 +84,25 @@ unfoldable pub loadCounts : List ℕ → Loaded
 loadCounts f = cond (within 1 (fileN f) mostSubs) (cond (within 0 (fileM f) mostReaches) (loadLength f) (refusedLoad 2 1)) (refusedLoad 2 0)
 
 -- "1 under 8 bytes (place 0)"; "A load checks in this order"
+abbrev pub leastBytes : ℕ
+leastBytes = 8
+
 unfoldable pub loadCall : List ℕ → Loaded
-loadCall f = cond (ltb (length f) 8) (refusedLoad 1 0) (loadCounts f)
+loadCall f = cond (ltb (length f) leastBytes) (refusedLoad 1 0) (loadCounts f)
+
+-- ---- what an accepted load says
+
+-- a file inside all limits: the only one that is accepted
+pub record FileIn (f : List ℕ) : Type 0 where
+  pub n-least : 1 ≤ fileN f
+  pub n-most : fileN f ≤ mostSubs
+  pub m-most : fileM f ≤ mostReaches
+  pub bytes : length f ≡ 4 * (2 + wordCount * fileN f + reachWordCount * fileM f)
+  pub in-words : wordsIn (fileWords f) ≡ true
+
+-- "An accepted load holds exactly the file's words", word k of sub-basin i and of reach j
+pub record Holds (f : List ℕ) (b : Basin) : Type 0 where
+  pub n-held : b .n ≡ wordAt f 0
+  pub m-held : b .m ≡ wordAt f 1
+  pub sub-held : (i k : ℕ) → i < fileN f → k < wordCount → getD (wordsOf (subAt b i)) k 0 ≡ wordAt f (subStart i + k)
+  pub reach-held : (j k : ℕ) → j < fileM f → k < reachWordCount → getD (reachWordsOf (reachAt b j)) k 0 ≡ wordAt f (reachStart (fileN f) j + k)

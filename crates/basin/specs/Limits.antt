@@ -1,6 +1,7 @@
 -- 9's limits of a basin: document 01, "Who sent it".
-use Prim.Native.Nat.{ℕ, suc, _+_, _-_}
-use mathlib.Core.Bool.{Bool, _&&_}
+use mathlib.Core.Path.{_≡_}
+use Prim.Native.Nat.{ℕ, suc, _+_, _-_, _≤_, _<_}
+use mathlib.Core.Bool.{Bool, true, _&&_}
 use mathlib.Core.List.{List}
 use lib.ListN.{getD}
 use Rattle.common.specs.Limits.{within}
@@ -10,7 +11,7 @@ use Rattle.subbasin.specs.Record.{recordIn, isBlank, blankSub}
 use Rattle.basin.specs.declared.reach.Reach.{Reach}
 use Rattle.basin.specs.declared.state.Basin.{Basin}
 use Rattle.basin.specs.Reach.{reachIn, isBlankReach, blankReach}
-use Rattle.basin.specs.State.{mostSubs, mostReaches}
+use Rattle.basin.specs.State.{mostSubs, mostReaches, subAt, reachAt}
 
 -- "N 1..32, M 0..31"
 unfoldable pub countsIn : ℕ → ℕ → Bool
@@ -37,3 +38,8 @@ othersIn b = countsIn (b .n) (b .m) && subsBlank (b .n) (b .subs) && reachesUsed
 -- A basin that 9 allows.
 unfoldable pub basinIn : Basin → Bool
 basinIn b = othersIn b && subsUsed (b .m) (b .n) (b .subs)
+
+-- What it says of the records past N and M: "an unused record not zero" is outside.
+pub record Unused (b : Basin) : Type 0 where
+  pub subs-zero : (i : ℕ) → b .n ≤ i → i < mostSubs → isBlank (subAt b i) ≡ true
+  pub reaches-zero : (j : ℕ) → b .m ≤ j → j < mostReaches → isBlankReach (reachAt b j) ≡ true

@@ -12,12 +12,16 @@ use Rattle.basin.specs.Reach.{blankReach}
 unfoldable pub send : List ℕ → ℕ → ℕ → List ℕ
 send pending at amount = set pending at (getD pending at 0 + amount)
 
--- "Muskingum with a = c0, g = c0 + c1": a reach's outflow and the reach after, from its inflow
+-- "Muskingum with a = c0, g = c0 + c1"
+abbrev pub gOf : Reach → ℕ
+gOf r = r .c0 + r .c1
+
+-- a reach's outflow and the reach after, from its inflow
 abbrev pub reachOut : Reach → ℕ → ℕ
-reachOut r i = outflow (r .c0) (r .c0 + r .c1) (r .content) i
+reachOut r i = outflow (r .c0) (gOf r) (r .content) i
 
 abbrev pub reachAfter : Reach → ℕ → Reach
-reachAfter r i = record { c0 = r .c0; c1 = r .c1; next = r .next; content = content (r .c0) (r .c0 + r .c1) (r .content) i }
+reachAfter r i = record { c0 = r .c0; c1 = r .c1; next = r .next; content = content (r .c0) (gOf r) (r .content) i }
 
 -- "inflow is the Q sent there plus outflows of reaches whose next names it": reach j takes all that was sent to it, and sends
 -- its outflow to the next, a greater number, or to the outlet

@@ -17,6 +17,10 @@ reachWordCount = 3
 abbrev pub reachWords : ℕ → ℕ → Reach → List Word
 reachWords m j r = word 0 (r .c0) one ∷ word 1 (r .c0 + r .c1) one ∷ word (cond (eqb (r .next) 0) 0 (suc j)) (r .next) m ∷ []
 
+-- the same without their ranges, as the file has them
+abbrev pub reachWordsOf : Reach → List ℕ
+reachWordsOf r = r .c0 ∷ r .c1 ∷ r .next ∷ []
+
 -- a reach that 9 allows
 unfoldable pub reachIn : ℕ → ℕ → Reach → Bool
 reachIn m j r = wordsIn (reachWords m j r) && leb (r .content) mostStored

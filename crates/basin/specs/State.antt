@@ -1,4 +1,5 @@
 -- The basin and its content: document 01, "The store law".
+use mathlib.Core.Path.{_≡_}
 use Prim.Native.Nat.{ℕ, _+_}
 use lib.ListN.{getD, replicate}
 use Rattle.common.specs.Loops.{sumOf}
@@ -30,3 +31,15 @@ contentOf b = sumOf (λ i. water (subAt b i)) (b .n) + sumOf (λ j. reachAt b j 
 -- "the empty basin, all zeros"
 abbrev pub emptyBasin : Basin
 emptyBasin = record { n = 0; m = 0; subs = replicate mostSubs blankSub; reaches = replicate mostReaches blankReach }
+
+-- the same in all words but the contents: "Areas and capacities are the file's throughout"
+pub record SameWords (before after : Reach) : Type 0 where
+  pub c0-same : after .c0 ≡ before .c0
+  pub c1-same : after .c1 ≡ before .c1
+  pub next-same : after .next ≡ before .next
+
+pub record Unchanged (before after : Basin) : Type 0 where
+  pub n-same : after .n ≡ before .n
+  pub m-same : after .m ≡ before .m
+  pub fixed-same : (i : ℕ) → subAt after i .fixed ≡ subAt before i .fixed
+  pub words-same : (j : ℕ) → SameWords (reachAt before j) (reachAt after j)

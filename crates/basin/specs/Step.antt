@@ -1,7 +1,9 @@
 -- Document 01: one step of the basin, its report, and the step call.
+use mathlib.Core.Path.{_≡_}
 use Prim.Native.Nat.{ℕ, _+_, _*_}
-use mathlib.Core.Bool.{cond}
+use mathlib.Core.Bool.{true, false, cond}
 use mathlib.Core.List.{List}
+use mathlib.Core.Logic.{_↔_}
 use lib.Dec.{eqb}
 use lib.ListN.{getD, replicate}
 use Rattle.common.specs.declared.weather.Weather.{Weather}
@@ -9,10 +11,11 @@ use Rattle.common.specs.Weather.{calm}
 use Rattle.common.specs.Loops.{run, filled, sumOf}
 use Rattle.forcing.specs.declared.list.Line.{Line}
 use Rattle.forcing.specs.declared.list.Forcing.{Forcing}
-use Rattle.forcing.specs.List.{reading}
+use Rattle.forcing.specs.List.{reading, isInside}
 use Rattle.subbasin.specs.declared.step.Stepped.{Stepped}
 use Rattle.subbasin.specs.Step.{stepped}
 use Rattle.basin.specs.declared.state.Basin.{Basin}
+use Rattle.basin.specs.declared.step.Report.{Report}
 use Rattle.basin.specs.declared.step.Outcome.{Outcome}
 use Rattle.basin.specs.State.{subAt, contentOf}
 use Rattle.basin.specs.Limits.{basinIn}
@@ -66,9 +69,11 @@ taken b f =
     }
 
 -- "A refused step reports zeros", and hands back the basin that it got
+abbrev pub zeros : Report
+zeros = record { rain = 0; evapotranspiration = 0; outlet = 0; content = 0; estimated = 0 }
+
 abbrev pub refusedStep : Basin → ℕ → ℕ → Outcome
-refusedStep b number place =
-    record { number = number; place = place; basin = b; report = record { rain = 0; evapotranspiration = 0; outlet = 0; content = 0; estimated = 0 } }
+refusedStep b number place = record { number = number; place = place; basin = b; report = zeros }
 
 -- 5 to 8, and otherwise an accepted step
 unfoldable pub answered : Basin → Forcing → Outcome
@@ -77,3 +82,15 @@ answered b f = cond (eqb (f .number) 0) (taken b f) (refusedStep b (f .number) (
 -- "9 .. judged before 5"
 unfoldable pub stepCall : Basin → List Line → ℕ → Outcome
 stepCall b lines count = cond (basinIn b) (answered b (reading lines count (b .n))) (refusedStep b 9 0)
+
+-- ---- what is accepted, of any basin, loaded or handed in by a host
+
+-- "a refused step hands back the basin unchanged" and "reports zeros"
+pub record Refused (got : Basin) (o : Outcome) : Type 0 where
+  pub unchanged : o .basin ≡ got
+  pub reports-zeros : o .report ≡ zeros
+
+pub record Judged (b : Basin) (lines : List Line) (count : ℕ) (o : Outcome) : Type 0 where
+  pub accepted : (o .number ≡ 0) ↔ ((basinIn b ≡ true) × (isInside lines count (b .n) ≡ true))
+  pub refused : (o .number ≡ 0 → ⊥) → Refused b o
+  pub nine-first : basinIn b ≡ false → o .number ≡ 9

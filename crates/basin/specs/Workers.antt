@@ -19,7 +19,7 @@ use Rattle.basin.specs.declared.step.Subs.{Subs}
 use Rattle.basin.specs.declared.step.Turn.{Turn}
 use Rattle.basin.specs.Reach.{blankReach, reachIn}
 use Rattle.basin.specs.Limits.{subsUsed}
-use Rattle.basin.specs.Network.{flows, reachesAfter}
+use Rattle.basin.specs.Network.{gOf, flows, reachesAfter}
 use Rattle.basin.specs.Step.{stepOf, sentBy, rainVolume, lossVolume}
 
 -- 32 lines' weather, each inside its limits
@@ -76,7 +76,7 @@ pub record SubsOf (b : Basin) (ws : List Weather) (r : Subs) : Type 0 where
 -- a reach whose store call is accepted
 pub record Passing (r : Reach) (i : ℕ) : Type 0 where
   pub c0-most : r .c0 ≤ one
-  pub shares-most : r .c0 + r .c1 ≤ one
+  pub g-most : gOf r ≤ one
   pub content-most : r .content ≤ mostStored
   pub inflow-most : i ≤ 2 ^ 62
 

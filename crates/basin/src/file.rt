@@ -1,11 +1,13 @@
 // The basin file: document 01, "The basin file", and refusals 1 to 4 of "Who sent it".
 ghost use mathlib.Core.Path.{_≡_};
+ghost use mathlib.Core.Logic.{_↔_};
 ghost use Prim.Native.Nat.{_≤_, _<_};
 ghost use Rattle.common.specs.Limits.{firstOut};
 ghost use Rattle.common.specs.Loops.{table};
 ghost use Rattle.subbasin.specs.Record.{blankSub};
 ghost use Rattle.basin.specs.Reach.{blankReach};
 ghost use Rattle.basin.specs.File.{fileSub, fileReach, subWords, reachesWords, allWords, refusedLoad, loadCall};
+ghost use Rattle.basin.specs.File.{FileIn, Holds};
 ghost use Rattle.basin.specs.Account.{Demand3};
 use crate::reach;
 use crate::reach::Reach;
@@ -22,6 +24,9 @@ const SUB_WORDS: u64 = record::WORDS as u64;
 
 const REACH_WORDS: u64 = reach::WORDS;
 
+// No file has fewer bytes.
+const LEAST_BYTES: u64 = 8;
+
 // What a load hands back: number and place are 0 where the file is accepted.
 pub struct Loaded {
     pub number: u64,
@@ -29,14 +34,16 @@ pub struct Loaded {
     pub basin: Basin,
 }
 
-// The basin of a file's bytes. A load checks 1, 2, 3, 4 in this order. From an accepted basin every list of steps keeps the
-// water account: demand 3.
+// The basin of a file's bytes. A load checks 1, 2, 3, 4 in this order, accepts every file inside the limits, and then holds its words.
+// From an accepted basin every list of steps keeps the water account: demand 3.
 pub fn load(bytes: &[u8]) -> Loaded
-    ensures holds { λ r. ⌜ r ≡ loadCall (now (bytes .entry)) ⌝ }
+    ensures answers { λ r. ⌜ r ≡ loadCall (now (bytes .entry)) ⌝ }
+    ensures accepts { λ r. ⌜ (r .number ≡ 0) ↔ FileIn (now (bytes .entry)) ⌝ }
+    ensures holds { λ r. ⌜ (r .number ≡ 0 → Holds (now (bytes .entry)) (r .basin)) ⌝ }
     ensures accounts { λ r. ⌜ Demand3 (now (bytes .entry)) r ⌝ }
 {
     let size = bytes.len() as u64;
-    if size < 8 {
+    if size < LEAST_BYTES {
         return refuse(1, 0);
     }
     let n = word(bytes, 0);

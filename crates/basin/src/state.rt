@@ -1,6 +1,7 @@
 // The basin: document 01's opening section and 9 of "Who sent it".
 ghost use mathlib.Core.Path.{_≡_};
-ghost use Rattle.basin.specs.Limits.{basinIn};
+ghost use mathlib.Core.Bool.{true};
+ghost use Rattle.basin.specs.Limits.{basinIn, Unused};
 use crate::limits;
 use crate::reach::Reach;
 use subbasin::record::SubBasin;
@@ -20,7 +21,8 @@ pub const MOST_REACHES: u64 = 31;
 
 // Whether 9 allows the basin.
 pub fn allowed(b: Basin) -> bool
-    ensures { λ r. ⌜ r ≡ basinIn b ⌝ }
+    ensures answers { λ r. ⌜ r ≡ basinIn b ⌝ }
+    ensures judges { λ r. ⌜ (r ≡ true → Unused b) ⌝ }
 {
     if limits::others_allowed(b) {
         let subs = b.subs;

@@ -4,7 +4,7 @@ ghost use mathlib.Core.Bool.{true, cond};
 ghost use Prim.Native.Nat.{_≤_};
 ghost use Rattle.common.specs.Weather.{WeatherIn};
 ghost use Rattle.basin.specs.Limits.{othersIn, basinIn};
-ghost use Rattle.basin.specs.Step.{taken, refusedStep, stepCall};
+ghost use Rattle.basin.specs.Step.{taken, refusedStep, stepCall, Judged};
 ghost use Rattle.basin.specs.Workers.{Weathers, TurnOf, subsOnly, SubsOf};
 use crate::limits;
 use crate::network;
@@ -36,18 +36,27 @@ pub struct Outcome {
 
 // One step under a forcing list of count lines. 9 is judged before 5, and 5 before the lines.
 pub fn step(b: Basin, lines: [Line; 32], count: u64) -> Outcome
-    ensures { λ r. ⌜ r ≡ stepCall b lines count ⌝ }
+    ensures answers { λ r. ⌜ r ≡ stepCall b lines count ⌝ }
+    ensures judges { λ r. ⌜ Judged b lines count r ⌝ }
 {
     let f = list::read(lines, count, b.n);
     if limits::others_allowed(b) {
         if f.number == 0 {
             return take(b, f);
         }
-        let subs = b.subs;
-        if limits::subs_used(subs, b.n, b.m) {
-            return refuse(b, f.number, f.place);
-        }
-        return refuse(b, 9, 0);
+        return refuse_forcing(b, f.number, f.place);
+    }
+    refuse(b, 9, 0)
+}
+
+// A step whose forcing is refused with number and place: with 9 where that doesn't allow a sub-basin in use.
+fn refuse_forcing(b: Basin, number: u64, place: u64) -> Outcome
+    requires { ⌜ othersIn b ≡ true ⌝ }
+    ensures { λ r. ⌜ r ≡ cond (basinIn b) (refusedStep b number place) (refusedStep b 9 0) ⌝ }
+{
+    let subs = b.subs;
+    if limits::subs_used(subs, b.n, b.m) {
+        return refuse(b, number, place);
     }
     refuse(b, 9, 0)
 }

@@ -15,7 +15,7 @@ use Rattle.basin.specs.declared.reach.Reach.{Reach}
 use Rattle.basin.specs.Reach.{reachWordCount, reachWords, blankReach}
 use Rattle.basin.specs.State.{mostSubs, mostReaches}
 use Rattle.basin.specs.File.{fileN, fileM, fileSub, fileReach, fileBasin, subWords, reachesWords, allWords, fileWords}
-use Rattle.basin.specs.File.{refusedLoad, acceptedLoad, loadWords, loadLength, loadCounts, loadCall}
+use Rattle.basin.specs.File.{leastBytes, refusedLoad, acceptedLoad, loadWords, loadLength, loadCounts, loadCall}
 
 -- ---- the words of sub-basin i and of reach j, counted from 0
 
@@ -70,24 +70,24 @@ out-le f n m e = omega (arith, first-le (allWords f n m), all-length f n m)
 
 -- ---- the load call
 
-pub load-short : (f : List ℕ) → length f < 8 → refusedLoad 1 0 ≡ loadCall f
+pub load-short : (f : List ℕ) → length f < leastBytes → refusedLoad 1 0 ≡ loadCall f
 unfolding loadCall
-load-short f h = rw (lt-ltb (length f) 8 h)
+load-short f h = rw (lt-ltb (length f) leastBytes h)
 
-module _ (f : List ℕ) {n : ℕ} (long : 8 ≤ length f) (is-n : n ≡ fileN f) where
+module _ (f : List ℕ) {n : ℕ} (long : leastBytes ≤ length f) (is-n : n ≡ fileN f) where
   pub load-n : (1 ≤ n → n ≤ mostSubs → ⊥) → refusedLoad 2 0 ≡ loadCall f
   unfolding loadCall loadCounts
-  load-n h = rw (le-ltb (length f) 8 long, ← is-n, within-not 1 n mostSubs h)
+  load-n h = rw (le-ltb (length f) leastBytes long, ← is-n, within-not 1 n mostSubs h)
 
   module _ {m : ℕ} (n-least : 1 ≤ n) (n-most : n ≤ mostSubs) (is-m : m ≡ fileM f) where
     pub load-m : mostReaches < m → refusedLoad 2 1 ≡ loadCall f
     unfolding loadCall loadCounts
-    load-m h = rw (le-ltb (length f) 8 long, ← is-n, within-in 1 n mostSubs n-least n-most, ← is-m, within-not 0 m mostReaches (λ _ g. omega arith))
+    load-m h = rw (le-ltb (length f) leastBytes long, ← is-n, within-in 1 n mostSubs n-least n-most, ← is-m, within-not 0 m mostReaches (λ _ g. omega arith))
 
     module _ (m-most : m ≤ mostReaches) where
       counted : loadLength f ≡ loadCall f
       unfolding loadCall loadCounts
-      counted = rw (le-ltb (length f) 8 long, ← is-n, within-in 1 n mostSubs n-least n-most, ← is-m, within-in 0 m mostReaches (omega arith) m-most)
+      counted = rw (le-ltb (length f) leastBytes long, ← is-n, within-in 1 n mostSubs n-least n-most, ← is-m, within-in 0 m mostReaches (omega arith) m-most)
 
       pub load-size : (length f ≡ 4 * (2 + (wordCount * n + reachWordCount * m)) → ⊥) → refusedLoad 3 0 ≡ loadCall f
       unfolding loadLength

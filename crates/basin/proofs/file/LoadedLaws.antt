@@ -1,7 +1,8 @@
 -- What an accepted load says of the file, and that its basin holds the file's words. Assumes nothing.
-use mathlib.Core.Path.{_≡_, refl, ap, _∙_}
+use mathlib.Core.Path.{_≡_, refl, sym, ap, _∙_}
 use mathlib.Core.Bool.{Bool, true, false, cond}
-use mathlib.Core.List.{List, [], _∷_}
+use mathlib.Core.List.{List, []}
+use mathlib.Core.Logic.{_↔_}
 use Prim.Native.Nat.{ℕ, suc, _+_, _*_, _≤_, _<_}
 use native.Mathlib.Nat.{add-zero}
 use native.Mathlib.Omega.{arith}
@@ -11,28 +12,20 @@ use borrow.Author.Tests.{le-ltb, eq-eqb, eqb-true}
 use Rattle.common.specs.Limits.{within, firstOut}
 use Rattle.common.specs.Loops.{filled, table}
 use Rattle.common.specs.Bytes.{wordAt}
-use Rattle.common.proofs.Limits.{within-in, within-limits, Within, within-append, first-all, first-none, parts-in}
+use Rattle.common.proofs.Limits.{within-in, within-limits, Within, words-limits, words-in, within-append, first-all, first-none, parts-in}
 use Rattle.common.proofs.Loops.{table-length, table-in, table-past}
 use Rattle.subbasin.specs.Record.{wordCount, words, wordsOf, blankSub, mostStart}
 use Rattle.subbasin.proofs.record.RecordLaws.{words-read-back}
-use Rattle.basin.specs.declared.reach.Reach.{Reach}
 use Rattle.basin.specs.declared.state.Basin.{Basin}
 use Rattle.basin.specs.declared.file.Loaded.{Loaded}
-use Rattle.basin.specs.Reach.{reachWordCount, blankReach}
+use Rattle.basin.specs.Reach.{reachWordCount, reachWordsOf, blankReach}
 use Rattle.basin.specs.State.{mostSubs, mostReaches, subAt, reachAt}
 use Rattle.basin.specs.File.{fileN, fileM, subStart, reachStart, fileSub, fileReach, fileBasin, subWords, reachesWords, fileWords}
-use Rattle.basin.specs.File.{refusedLoad, acceptedLoad, loadWords, loadLength, loadCounts, loadCall}
+use Rattle.basin.specs.File.{leastBytes, refusedLoad, acceptedLoad, loadWords, loadLength, loadCounts, loadCall, FileIn, Holds}
 use Rattle.basin.proofs.reach.ReachLaws.{ReachWords, reach-words}
 use Rattle.basin.proofs.file.FileLaws.{in-subs, in-reaches}
 
 -- ---- the limits 1 to 4
-
-pub record FileIn (f : List ℕ) : Type 0 where
-  pub n-least : 1 ≤ fileN f
-  pub n-most : fileN f ≤ mostSubs
-  pub m-most : fileM f ≤ mostReaches
-  pub bytes : length f ≡ 4 * (2 + wordCount * fileN f + reachWordCount * fileM f)
-  pub in-words : Within (fileWords f)
 
 -- the one of two answers that is accepted
 passed-test : (b : Bool) (x y : Loaded) → (y .number ≡ 0 → ⊥) → cond b x y .number ≡ 0 → (b ≡ true) × (x .number ≡ 0)
@@ -62,12 +55,12 @@ module _ (f : List ℕ) where
       let u = passed-test m-in (loadLength f) (refusedLoad 2 1) (λ z. omega arith) (t .1) in
       let n-in = within-limits 1 (fileN f) mostSubs (t .0) in
       let r = length-passed (u .1) in
-      record { n-least = n-in .0; n-most = n-in .1; m-most = within-limits 0 (fileM f) mostReaches (u .0) .1; bytes = r .0; in-words = r .1 }
+      record { n-least = n-in .0; n-most = n-in .1; m-most = within-limits 0 (fileM f) mostReaches (u .0) .1; bytes = r .0; in-words = words-in (fileWords f) (r .1) }
 
   -- accepted exactly inside the limits
   pub load-limits : loadCall f .number ≡ 0 → FileIn f
   unfolding loadCall
-  load-limits e = go (ltb (length f) 8) e
+  load-limits e = go (ltb (length f) leastBytes) e
     where
       go : (b : Bool) → cond b (refusedLoad 1 0) (loadCounts f) .number ≡ 0 → FileIn f
       go true e = absurd (omega arith)
@@ -77,11 +70,11 @@ module _ (f : List ℕ) where
   unfolding loadCall loadCounts loadLength loadWords
   load-accepts h =
       rw (
-        le-ltb (length f) 8 (omega arith),
+        le-ltb (length f) leastBytes (omega arith),
         within-in 1 (fileN f) mostSubs (h .n-least) (h .n-most),
         within-in 0 (fileM f) mostReaches (omega arith) (h .m-most),
         eq-eqb (length f) (4 * (2 + wordCount * fileN f + reachWordCount * fileM f)) (h .bytes),
-        eq-eqb (firstOut (fileWords f)) (length (fileWords f)) (first-all (fileWords f) (h .in-words)),
+        eq-eqb (firstOut (fileWords f)) (length (fileWords f)) (first-all (fileWords f) (words-limits (fileWords f) (h .in-words))),
       )
 
   pub load-holds-file : loadCall f .number ≡ 0 → loadCall f .basin ≡ fileBasin f
@@ -90,7 +83,8 @@ module _ (f : List ℕ) where
   -- each record's words inside their ranges
   module _ (h : FileIn f) where
     split-words : Within (subWords f (fileM f) 0 (fileN f)) × Within (reachesWords f (fileN f) (fileM f) 0 (fileM f))
-    split-words = within-append (subWords f (fileM f) 0 (fileN f)) (reachesWords f (fileN f) (fileM f) 0 (fileM f)) (h .in-words)
+    split-words =
+        within-append (subWords f (fileM f) 0 (fileN f)) (reachesWords f (fileN f) (fileM f) 0 (fileM f)) (words-limits (fileWords f) (h .in-words))
 
     pub file-sub-words : (i : ℕ) → i < fileN f → Within (words (fileM f) mostStart (fileSub f i))
     file-sub-words i l = parts-in (in-subs f (fileM f)) 0 (fileN f) (split-words .0) i i (omega arith) l
@@ -101,9 +95,6 @@ module _ (f : List ℕ) where
         (parts-in (in-reaches f (fileN f) (fileM f)) 0 (fileM f) (split-words .1) j j (omega arith) l)
 
 -- ---- the basin of the file's words
-
-abbrev pub reachWordsOf : Reach → List ℕ
-reachWordsOf r = r .c0 ∷ r .c1 ∷ r .next ∷ []
 
 module _ (f : List ℕ) where
   pub file-subs-length : length (fileBasin f .subs) ≡ mostSubs
@@ -154,21 +145,34 @@ module _ (f : List ℕ) where
   unfolding fileReach filled
   reach-words-held j l h = rw (file-reach j l h, add-zero (reachStart (fileN f) j))
 
--- "An accepted load holds exactly the file's words"
-module _ (f : List ℕ) (h : loadCall f .number ≡ 0) where
-  pub counts-held : (loadCall f .basin .n ≡ wordAt f 0) × (loadCall f .basin .m ≡ wordAt f 1)
-  unfolding fileBasin
-  counts-held = rw (load-holds-file f h) (refl, refl)
+-- ---- the contract of a load, from its equation
 
-  pub sub-word : (i k : ℕ) → i < fileN f → k < wordCount → getD (wordsOf (subAt (loadCall f .basin) i)) k 0 ≡ wordAt f (subStart i + k)
-  sub-word i k l b =
-      ap (λ (c : Basin). getD (wordsOf (subAt c i)) k 0) (load-holds-file f h)
-      ∙ ap (λ (v : List ℕ). getD v k 0) (words-held f i l (load-limits f h .n-most))
-      ∙ table-in (λ k. wordAt f (subStart i + k)) 0 wordCount wordCount k b b
+module _ (f : List ℕ) {loaded : Loaded} (e : loaded ≡ loadCall f) where
+  accepted : loaded .number ≡ 0 → loadCall f .number ≡ 0
+  accepted z = sym (ap (λ (l : Loaded). l .number) e) ∙ z
 
-  pub reach-word : (j k : ℕ) → j < fileM f → k < reachWordCount
-      → getD (reachWordsOf (reachAt (loadCall f .basin) j)) k 0 ≡ wordAt f (reachStart (fileN f) j + k)
-  reach-word j k l b =
-      ap (λ (c : Basin). getD (reachWordsOf (reachAt c j)) k 0) (load-holds-file f h)
-      ∙ ap (λ (v : List ℕ). getD v k 0) (reach-words-held f j l (load-limits f h .m-most))
-      ∙ table-in (λ k. wordAt f (reachStart (fileN f) j + k)) 0 reachWordCount reachWordCount k b b
+  pub accepted-within : (loaded .number ≡ 0) ↔ FileIn f
+  accepted-within = (λ z. load-limits f (accepted z), λ h. ap (λ (l : Loaded). l .number) (e ∙ load-accepts f h))
+
+  module _ (z : loaded .number ≡ 0) where
+    basin-is : loaded .basin ≡ fileBasin f
+    basin-is = ap (λ (l : Loaded). l .basin) e ∙ load-holds-file f (accepted z)
+
+    -- "An accepted load holds exactly the file's words"
+    pub words-loaded : Holds f (loaded .basin)
+    unfolding fileBasin
+    words-loaded =
+        record {
+          n-held = ap (λ (b : Basin). b .n) basin-is;
+          m-held = ap (λ (b : Basin). b .m) basin-is;
+          sub-held =
+              λ i k l b.
+              ap (λ (c : Basin). getD (wordsOf (subAt c i)) k 0) basin-is
+              ∙ ap (λ (v : List ℕ). getD v k 0) (words-held f i l (load-limits f (accepted z) .n-most))
+              ∙ table-in (λ k. wordAt f (subStart i + k)) 0 wordCount wordCount k b b;
+          reach-held =
+              λ j k l b.
+              ap (λ (c : Basin). getD (reachWordsOf (reachAt c j)) k 0) basin-is
+              ∙ ap (λ (v : List ℕ). getD v k 0) (reach-words-held f j l (load-limits f (accepted z) .m-most))
+              ∙ table-in (λ k. wordAt f (reachStart (fileN f) j + k)) 0 reachWordCount reachWordCount k b b;
+        }

@@ -15,8 +15,8 @@ use Rattle.curve.proofs.store.StoreLaws.{slack, store-passes}
 use Rattle.subbasin.specs.Record.{mostStored}
 use Rattle.basin.specs.declared.reach.Reach.{Reach}
 use Rattle.basin.specs.Reach.{blankReach}
-use Rattle.basin.specs.Network.{send, reachOut, reachAfter, flows, inflow, reachesAfter}
-use Rattle.basin.proofs.reach.ReachLaws.{ReachWords}
+use Rattle.basin.specs.Network.{gOf, send, reachOut, reachAfter, flows, inflow, reachesAfter}
+use Rattle.basin.proofs.reach.ReachLaws.{ReachWords, g-most, g-least}
 use Rattle.basin.proofs.network.NetworkLaws.{send-sum-most, after-in, after-past}
 
 -- ---- the caps
@@ -105,19 +105,19 @@ sent-below to q (suc n) h = below-send _ (capsOf to n) (to n) (q n) (2 ^ 34) (se
 abbrev pub HeldDown : ℕ → List Reach → List ℕ → Type 0
 HeldDown m rs caps =
     (k : ℕ) → k < m
-    → (getD rs k blankReach .c0 + getD rs k blankReach .c1) * getD rs k blankReach .content
+    → gOf (getD rs k blankReach) * getD rs k blankReach .content
     ≤ (one - getD rs k blankReach .c0) * getD (capFlows rs k caps) (suc k) 0 + slack
 
 module _ (m : ℕ) (rs : List Reach) (w : (k : ℕ) → k < m → ReachWords m (suc k) (getD rs k blankReach)) (caps : List ℕ) where
   module _ (h : HeldDown m rs caps) (p : List ℕ) (below : Below p caps) where
     -- a reach whose inflow is below its cap stays held down, and lets out at most the cap
     passes : (k : ℕ) → k < m → Below (flows rs k p) (capFlows rs k caps)
-        → ((getD rs k blankReach .c0 + getD rs k blankReach .c1) * reachAfter (getD rs k blankReach) (inflow rs p k) .content
+        → (gOf (getD rs k blankReach) * reachAfter (getD rs k blankReach) (inflow rs p k) .content
         ≤ (one - getD rs k blankReach .c0) * getD (capFlows rs k caps) (suc k) 0 + slack)
         × (reachOut (getD rs k blankReach) (inflow rs p k) ≤ getD (capFlows rs k caps) (suc k) 0)
     passes k l b =
         let r = getD rs k blankReach in
-        store-passes (w k l .c0-most) (w k l .shares-most) (r .content) (inflow rs p k) (getD (capFlows rs k caps) (suc k) 0)
+        store-passes (w k l .c0-most) (g-most (w k l)) (r .content) (inflow rs p k) (getD (capFlows rs k caps) (suc k) 0)
         (below-at (flows rs k p) (capFlows rs k caps) (suc k) b) (h k l)
 
     flows-below : (k : ℕ) → k ≤ m → Below (flows rs k p) (capFlows rs k caps)
@@ -147,7 +147,7 @@ module _ (m : ℕ) (rs : List Reach) (w : (k : ℕ) → k < m → ReachWords m (
         h k l,
         mul-le-mul {n₁ = one - r .c0} {m₁ = cap} {n₂ = one} {m₂ = 2 ^ 39} (omega arith)
             (omega (arith, at-most-sum (capFlows rs k caps) (suc k), cap-flows-sum rs k caps)),
-        mul-le-mul-right {m = 1} {n = r .c0 + r .c1} (r .content) (w k l .shares-least),
+        mul-le-mul-right {m = 1} {n = gOf r} (r .content) (g-least (w k l)),
       )
 
   -- an empty reach is held down

@@ -14,7 +14,7 @@ use Rattle.curve.proofs.store.StoreLaws.{store-conserves}
 use Rattle.basin.specs.declared.reach.Reach.{Reach}
 use Rattle.basin.specs.Reach.{blankReach}
 use Rattle.basin.specs.Network.{send, reachOut, reachAfter, passed, flows, inflow, reachesAfter}
-use Rattle.basin.proofs.reach.ReachLaws.{ReachWords}
+use Rattle.basin.proofs.reach.ReachLaws.{ReachWords, g-most}
 
 -- ---- an amount sent to a place
 
@@ -58,7 +58,7 @@ cleared p j k h = go (ℕ-discrete k j)
 module _ {m j : ℕ} {r : Reach} (w : ReachWords m j r) where
   -- content after and outflow are content before and inflow
   pub reach-conserves : (i : ℕ) → reachAfter r i .content + reachOut r i ≡ r .content + i
-  reach-conserves i = store-conserves (w .c0-most) (w .shares-most) (r .content) i
+  reach-conserves i = store-conserves (w .c0-most) (g-most w) (r .content) i
 
   pub pass-conserves : (p : List ℕ) → m < length p → sum (passed j r p) + reachAfter r (getD p j 0) .content ≡ sum p + r .content
   pass-conserves p h =

@@ -17,7 +17,7 @@ use Rattle.basin.specs.declared.network.Passed.{Passed}
 use Rattle.basin.specs.Reach.{blankReach}
 use Rattle.basin.specs.Network.{send, reachOut, reachAfter, passed, flows, inflow, reachesAfter}
 use Rattle.basin.specs.Workers.{Passing, Flowing, Flowed}
-use Rattle.basin.proofs.reach.ReachLaws.{ReachIn, reach-limits}
+use Rattle.basin.proofs.reach.ReachLaws.{ReachIn, g-most, reach-limits}
 use Rattle.basin.proofs.network.NetworkLaws.{flows-most, contents-most, after-same}
 
 -- i reaches have had their turn
@@ -68,7 +68,7 @@ module _ (m : ℕ) (rs : List Reach) (p : List ℕ) where
       passing-here =
           record {
             c0-most = in-here .in-words .c0-most;
-            shares-most = in-here .in-words .shares-most;
+            g-most = g-most (in-here .in-words);
             content-most = in-here .content-most;
             inflow-most = omega (arith, at-most-sum pending (i + 1), ap sum pending-is, pending-most (s .flowing) (s .wide) i (omega arith));
           }
@@ -92,7 +92,7 @@ module _ (m : ℕ) (rs : List Reach) (p : List ℕ) where
               ap sum pending-is,
               pending-most (s .flowing) (s .wide) i (omega arith),
               of .1,
-              store-within (passing-here .c0-most) (passing-here .shares-most) (getD after i d .content) (getD pending (i + 1) 0),
+              store-within (passing-here .c0-most) (passing-here .g-most) (getD after i d .content) (getD pending (i + 1) 0),
               passing-here .content-most,
               passing-here .inflow-most,
             )

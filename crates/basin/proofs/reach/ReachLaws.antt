@@ -13,6 +13,7 @@ use Rattle.common.proofs.Limits.{both, parts, refuted, Within, words-limits, wo
 use Rattle.common.proofs.amounts.AmountLaws.{UpTo, all-limits, all-in}
 use Rattle.subbasin.specs.Record.{mostStored}
 use Rattle.basin.specs.declared.reach.Reach.{Reach}
+use Rattle.basin.specs.Network.{gOf}
 use Rattle.basin.specs.Reach.{reachWordCount, reachWords, reachIn, blankReach, isBlankReach}
 
 -- ---- a reach's words
@@ -23,6 +24,13 @@ pub record ReachWords (m j : ℕ) (r : Reach) : Type 0 where
   pub shares-most : r .c0 + r .c1 ≤ one
   pub next-after : (r .next ≡ 0 → ⊥) → j < r .next
   pub next-most : r .next ≤ m
+
+-- g, the share that a reach lets go of its content: at most the whole, and never nothing, so that no reach fills without end
+pub g-most : {m j : ℕ} {r : Reach} → ReachWords m j r → gOf r ≤ one
+g-most w = omega (arith, w .shares-most)
+
+pub g-least : {m j : ℕ} {r : Reach} → ReachWords m j r → 1 ≤ gOf r
+g-least w = omega (arith, w .shares-least)
 
 -- next is 0 or above the reach's own number
 pub next-limits : {next : ℕ} (j : ℕ) → (next ≡ 0 → ⊥) → cond (eqb next 0) 0 (suc j) ≤ next → j < next

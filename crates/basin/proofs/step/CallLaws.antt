@@ -1,16 +1,17 @@
 -- The step call: what its parts come to is the definition's outcome. Assumes nothing.
 use mathlib.Core.Path.{_≡_, refl, sym, ap, _∙_}
-use mathlib.Core.Bool.{Bool, true, false, cond}
+use mathlib.Core.Bool.{Bool, true, false, cond, true≢false}
 use mathlib.Core.List.{List}
 use Prim.Native.Nat.{ℕ, _+_}
 use native.Mathlib.Numerals.{add-one}
 use native.Mathlib.Omega.{arith}
 use lib.ListN.{getD}
-use borrow.Author.Tests.{eq-eqb, ne-eqb}
+use borrow.Author.Tests.{eq-eqb, ne-eqb, eqb-false}
 use Rattle.common.specs.Loops.{sumOf}
 use Rattle.forcing.specs.declared.list.Line.{Line}
 use Rattle.forcing.specs.declared.list.Forcing.{Forcing}
-use Rattle.forcing.specs.List.{reading}
+use Rattle.forcing.specs.List.{reading, isInside}
+use Rattle.forcing.proofs.list.ReadLaws.{accepted-test}
 use Rattle.basin.specs.declared.reach.Reach.{Reach}
 use Rattle.basin.specs.declared.state.Basin.{Basin}
 use Rattle.basin.specs.declared.step.Subs.{Subs}
@@ -19,7 +20,7 @@ use Rattle.basin.specs.Reach.{blankReach}
 use Rattle.basin.specs.State.{reachAt, contentOf}
 use Rattle.basin.specs.Limits.{subsUsed, othersIn, basinIn}
 use Rattle.basin.specs.Network.{reachesAfter}
-use Rattle.basin.specs.Step.{sentBy, basinAfter, rainVolume, lossVolume, outletVolume, taken, refusedStep, answered, stepCall}
+use Rattle.basin.specs.Step.{sentBy, basinAfter, rainVolume, lossVolume, outletVolume, taken, refusedStep, answered, stepCall, Judged}
 use Rattle.basin.specs.Workers.{subsOnly, SubsDone, SubsOf, Flowing, Flowed}
 use Rattle.basin.proofs.reach.ReachLaws.{reach-in}
 use Rattle.basin.proofs.limits.LimitsLaws.{OthersIn, others-limits, basin-used, basin-others}
@@ -116,15 +117,54 @@ module _ (b : Basin) (lines : List Line) (count : ℕ) {f : Forcing} (read : f �
   unfolding stepCall answered
   call-accepted z = rw (← read, eq-eqb (f .number) 0 z)
 
-  module _ (y : othersIn b ≡ true) (n : f .number ≡ 0 → ⊥) {u : Bool} (t : u ≡ subsUsed (b .m) (b .n) (b .subs)) where
-    pub call-refused : u ≡ true → refusedStep b (f .number) (f .place) ≡ stepCall b lines count
-    unfolding stepCall answered
-    call-refused e = rw (basin-used b y ∙ sym t ∙ e, ← read, ne-eqb (f .number) 0 n)
+  pub call-refused : (f .number ≡ 0 → ⊥) → cond (basinIn b) (refusedStep b (f .number) (f .place)) (refusedStep b 9 0) ≡ stepCall b lines count
+  unfolding stepCall answered
+  call-refused n = rw (← read, ne-eqb (f .number) 0 n)
 
-    pub subs-outside : u ≡ false → refusedStep b 9 0 ≡ stepCall b lines count
-    unfolding stepCall
-    subs-outside e = rw (basin-used b y ∙ sym t ∙ e)
+-- ---- what is accepted, and what a refusal is
 
-pub others-outside : (b : Basin) (lines : List Line) (count : ℕ) → othersIn b ≡ false → refusedStep b 9 0 ≡ stepCall b lines count
-unfolding stepCall
-others-outside b lines count o = rw (basin-others b o)
+module _ (b : Basin) (lines : List Line) (count : ℕ) where
+  pub call-inside : basinIn b ≡ true → isInside lines count (b .n) ≡ true → stepCall b lines count ≡ taken b (reading lines count (b .n))
+  unfolding stepCall answered
+  call-inside n i = rw (n, accepted-test lines count (b .n) ∙ i)
+
+  pub call-outside : basinIn b ≡ true → isInside lines count (b .n) ≡ false
+      → stepCall b lines count ≡ refusedStep b (reading lines count (b .n) .number) (reading lines count (b .n) .place)
+  unfolding stepCall answered
+  call-outside n i = rw (n, accepted-test lines count (b .n) ∙ i)
+
+  -- 9 whatever the lines are
+  pub call-nine : basinIn b ≡ false → stepCall b lines count ≡ refusedStep b 9 0
+  unfolding stepCall
+  call-nine n = rw n
+
+  pub others-outside : othersIn b ≡ false → refusedStep b 9 0 ≡ stepCall b lines count
+  others-outside o = sym (call-nine (basin-others b o))
+
+  judged-cases : (t u : Bool) → basinIn b ≡ t → isInside lines count (b .n) ≡ u → Judged b lines count (stepCall b lines count)
+  unfolding taken
+  judged-cases false u n i =
+      rw (call-nine n)
+      (record {
+        accepted = (λ e. absurd (omega arith), λ p. absurd (true≢false (sym (p .0) ∙ n)));
+        refused = λ z. record { unchanged = refl; reports-zeros = refl };
+        nine-first = λ z. refl;
+      })
+  judged-cases true true n i =
+      rw (call-inside n i)
+      (record { accepted = (λ e. (n, i), λ p. refl); refused = λ z. absurd (z refl); nine-first = λ z. absurd (true≢false (sym n ∙ z)) })
+  judged-cases true false n i =
+      rw (call-outside n i)
+      (record {
+        accepted = (
+          λ e. absurd (eqb-false (reading lines count (b .n) .number) 0 (accepted-test lines count (b .n) ∙ i) e),
+          λ p. absurd (true≢false (sym (p .1) ∙ i)),
+        );
+        refused = λ z. record { unchanged = refl; reports-zeros = refl };
+        nine-first = λ z. absurd (true≢false (sym n ∙ z));
+      })
+
+-- the equation of a step's answer, and with it all that the contract says
+pub answers : (b : Basin) (lines : List Line) (count : ℕ) {o : Outcome} → o ≡ stepCall b lines count
+    → (o ≡ stepCall b lines count) × Judged b lines count o
+answers b lines count e = (e, rw e (judged-cases b lines count (basinIn b) (isInside lines count (b .n)) refl refl))

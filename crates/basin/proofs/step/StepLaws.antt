@@ -18,9 +18,8 @@ use Rattle.subbasin.specs.declared.record.SubBasin.{SubBasin}
 use Rattle.subbasin.specs.Record.{blankSub}
 use Rattle.subbasin.specs.Content.{water}
 use Rattle.subbasin.proofs.step.StepLaws.{Kept, step-keeps, step-balances}
-use Rattle.basin.specs.declared.reach.Reach.{Reach}
 use Rattle.basin.specs.declared.state.Basin.{Basin}
-use Rattle.basin.specs.State.{subAt, reachAt, contentOf}
+use Rattle.basin.specs.State.{subAt, reachAt, contentOf, SameWords, Unchanged}
 use Rattle.basin.specs.Step.{stepOf, sentBy, basinAfter, rainVolume, lossVolume, outletVolume}
 use Rattle.basin.specs.Workers.{Weathers}
 use Rattle.basin.proofs.limits.LimitsLaws.{BasinIn}
@@ -71,18 +70,6 @@ pub content-after : (b : Basin) (ws : List Weather)
     → contentOf (basinAfter b ws) ≡ sumOf (λ i. water (subAt (basinAfter b ws) i)) (b .n) + sumOf (λ j. reachAt (basinAfter b ws) j .content) (b .m)
 unfolding contentOf basinAfter
 content-after b ws = refl
-
--- what no step changes: the counts, each sub-basin's fixed words, each reach's words
-pub record SameWords (before after : Reach) : Type 0 where
-  pub c0-same : after .c0 ≡ before .c0
-  pub c1-same : after .c1 ≡ before .c1
-  pub next-same : after .next ≡ before .next
-
-pub record Unchanged (b after : Basin) : Type 0 where
-  pub n-same : after .n ≡ b .n
-  pub m-same : after .m ≡ b .m
-  pub fixed-same : (i : ℕ) → subAt after i .fixed ≡ subAt b i .fixed
-  pub words-same : (j : ℕ) → SameWords (reachAt b j) (reachAt after j)
 
 -- ---- the step
 

@@ -1,20 +1,23 @@
 -- `basin::file::load` meets its contract: each way out is a law of the load call. Assumes nothing.
 use mathlib.Core.Path.{_≡_, _∙_}
 use mathlib.Core.List.{List}
+use mathlib.Core.Logic.{_↔_}
 use Prim.Native.Nat.{ℕ}
 use native.Mathlib.Omega.{arith}
 use borrow.Author.Needs.{needs}
 use Rattle.basin.specs.declared.file.Loaded.{Loaded}
-use Rattle.basin.specs.File.{loadCall}
+use Rattle.basin.specs.File.{loadCall, FileIn, Holds}
 use Rattle.basin.specs.Account.{Demand3}
 use Rattle.basin.proofs.Account.{demand-3}
 use Rattle.basin.proofs.file.FileLaws.{load-short, load-n, load-m, load-size, load-word, load-all, out-le}
+use Rattle.basin.proofs.file.LoadedLaws.{accepted-within, words-loaded}
 use Rattle.basin.proofs.file.load.Statement.{statement}
 use Rattle.basin.proofs.file.load.Tie as tie
 
--- the answer's equation, and with it demand 3
-answered : (f : List ℕ) {loaded : Loaded} → loaded ≡ loadCall f → (loaded ≡ loadCall f) × Demand3 f loaded
-answered f e = (e, demand-3 f e)
+-- the answer's equation, and with it all that the contract says
+answered : (f : List ℕ) {loaded : Loaded} → loaded ≡ loadCall f
+    → (loaded ≡ loadCall f) × (((loaded .number ≡ 0) ↔ FileIn f) × ((loaded .number ≡ 0 → Holds f (loaded .basin)) × Demand3 f loaded))
+answered f e = (e, (accepted-within f e, (words-loaded f e, demand-3 f e)))
 
 returns : tie.Need-returns
 returns c = answered _ (c .refuse .ensures ∙ load-short _ (c .before .if1 .taken))

@@ -1,0 +1,265 @@
+-- Case B: two sub-basins, the first above a reach, and no two shares alike. From demand 3 follow its figures, which the second model gave. Assumes
+-- nothing.
+use mathlib.Core.Path.{_≡_, refl, ap, _∙_}
+use mathlib.Core.List.{List, [], _∷_}
+use Prim.Native.Nat.{ℕ, _+_}
+use native.Mathlib.Omega.{arith}
+use lib.ListN.{replicate}
+use lib.Ieee.{ofBits}
+use Rattle.common.specs.declared.weather.Weather.{Weather}
+use Rattle.common.specs.Limits.{firstOut}
+use Rattle.common.specs.Amounts.{sum}
+use Rattle.common.specs.Loops.{run, filled, sumOf, every, firstBad}
+use Rattle.common.specs.Bytes.{wordAt}
+use Rattle.common.specs.Weather.{calm}
+use Rattle.curve.specs.Store.{outflow, content}
+use Rattle.curve.proofs.capacity.FastLaws.{fastRise, rise-fast}
+use Rattle.forcing.specs.declared.list.Forcing.{Forcing}
+use Rattle.forcing.specs.Depth.{numerator, denominator, nearest, depthOf, fromZeroTo, unfit, aboveLimit, numberOf}
+use Rattle.forcing.specs.List.{weatherOf, lineInside, isInside, lineNumber, refusal, judgedLines, reading}
+use Rattle.subbasin.specs.declared.record.Contents.{Contents}
+use Rattle.subbasin.specs.declared.record.SubBasin.{SubBasin}
+use Rattle.subbasin.specs.declared.step.Stepped.{Stepped}
+use Rattle.subbasin.specs.Record.{ofWords, blankSub}
+use Rattle.subbasin.specs.Lag.{leaving, waitingAfter, entered}
+use Rattle.subbasin.specs.Content.{water}
+use Rattle.subbasin.specs.Soil.{ep, deeper, evaporated, mm, rb, gain, refilled, runoff}
+use Rattle.subbasin.specs.FreeWater.{ms, level, keep, parted}
+use Rattle.subbasin.specs.Step.{stepped}
+use Rattle.basin.specs.declared.state.Basin.{Basin}
+use Rattle.basin.specs.declared.step.Outcome.{Outcome}
+use Rattle.basin.specs.Reach.{blankReach}
+use Rattle.basin.specs.State.{contentOf}
+use Rattle.basin.specs.File.{fileN, fileSub, fileReach, fileBasin, subWords, reachesWords, loadWords, loadLength, loadCounts, loadCall}
+use Rattle.basin.specs.Network.{send, flows, reachesAfter}
+use Rattle.basin.specs.Step.{sentBy, basinAfter, rainVolume, lossVolume, outletVolume, taken, stepCall}
+use Rattle.basin.specs.Account.{Call, results, losses, rainOfLines, rains, Accounted}
+use Rattle.basin.specs.Cases.{words-b1, words-b2, file-b, call-b1, call-b2, call-b3, call-b4, calls-b, reported, Says, Always, Gives, figures-b}
+use Rattle.basin.proofs.CaseSteps.{accepted-next, refused-next, held-to, said, of-load}
+
+-- ---- the basin, and its states after the accepted calls
+
+abbrev sub-1 : SubBasin
+sub-1 = ofWords words-b1
+
+abbrev sub-2 : SubBasin
+sub-2 = ofWords words-b2
+
+-- with other contents, waiting amounts and channel
+abbrev with-contents : SubBasin → Contents → List ℕ → ℕ → SubBasin
+with-contents s held waiting channel =
+    record { fixed = s .fixed; contents = held; line = record { lag = s .line .lag; waiting = waiting }; channel = channel }
+
+abbrev basin-of : SubBasin → SubBasin → ℕ → Basin
+basin-of s t held =
+    record {
+      n = 2;
+      m = 1;
+      subs = s ∷ t ∷ replicate 30 blankSub;
+      reaches = record { c0 = 14418; c1 = 32768; next = 0; content = held } ∷ replicate 30 blankReach;
+    }
+
+abbrev sub-1-a : SubBasin
+sub-1-a = with-contents sub-1 (record { wu = 0; wl = 0; wd = 28201; g = 1438; vi = 1004; vg = 3531 }) (7889 ∷ replicate 14 0) 0
+
+abbrev sub-2-a : SubBasin
+sub-2-a = with-contents sub-2 (record { wu = 15000; wl = 70000; wd = 45767; g = 3836; vi = 1388; vg = 3477 }) (107799 ∷ replicate 14 0) 0
+
+abbrev sub-1-c : SubBasin
+sub-1-c = with-contents sub-1 (record { wu = 12000; wl = 80000; wd = 36058; g = 1760; vi = 973; vg = 3741 }) (255094 ∷ replicate 14 0) 3551
+
+abbrev sub-2-c : SubBasin
+sub-2-c = with-contents sub-2 (record { wu = 0; wl = 50501; wd = 45767; g = 1919; vi = 1473; vg = 4675 }) (1902 ∷ 107799 ∷ replicate 13 0) 0
+
+abbrev sub-1-d : SubBasin
+sub-1-d = with-contents sub-1 (record { wu = 10000; wl = 80000; wd = 36058; g = 1012; vi = 778; vg = 3726 }) (6706 ∷ replicate 14 0) 116390
+
+abbrev sub-2-d : SubBasin
+sub-2-d = with-contents sub-2 (record { wu = 15000; wl = 51199; wd = 45767; g = 3519; vi = 1896; vg = 6923 }) (14496 ∷ 1902 ∷ replicate 13 0) 32341
+
+file-basin-b : fileBasin file-b ≡ basin-of sub-1 sub-2 0
+unfolding fileBasin filled fileSub fileReach wordAt
+file-basin-b = refl
+
+file-sub-1 : fileSub file-b 0 ≡ sub-1
+unfolding fileSub filled wordAt
+file-sub-1 = refl
+
+file-sub-2 : fileSub file-b 1 ≡ sub-2
+unfolding fileSub filled wordAt
+file-sub-2 = refl
+
+file-n-b : fileN file-b ≡ 2
+unfolding wordAt
+file-n-b = refl
+
+load-b : loadCall file-b .number ≡ 0
+unfolding loadCall loadCounts loadLength loadWords firstOut fileBasin filled fileSub fileReach subWords reachesWords wordAt
+load-b = refl
+
+-- ---- the four calls
+
+abbrev fallen : ℕ → ℕ → Weather
+fallen rain pan = record { rain = rain; pan = pan }
+
+abbrev forcing-of : ℕ → Weather → Weather → Forcing
+forcing-of estimated w v = record { number = 0; place = 0; estimated = estimated; weather = w ∷ v ∷ replicate 30 calm }
+
+abbrev forcing-b1 : Forcing
+forcing-b1 = forcing-of 0 (fallen 1000 30000) (fallen 120500 3000)
+
+reading-b1 : reading (call-b1 .lines) 2 2 ≡ forcing-b1
+unfolding ofBits numberOf unfit aboveLimit depthOf nearest numerator denominator lineNumber weatherOf firstBad sumOf filled judgedLines reading
+reading-b1 = refl
+
+reading-b2 : reading (call-b2 .lines) 2 2 ≡ refusal 6 2
+unfolding ofBits numberOf unfit aboveLimit depthOf nearest numerator denominator lineNumber weatherOf firstBad sumOf filled judgedLines reading
+reading-b2 = refl
+
+abbrev forcing-b3 : Forcing
+forcing-b3 = forcing-of 1 (fallen 140000 4000) (fallen 1500 40000)
+
+reading-b3 : reading (call-b3 .lines) 2 2 ≡ forcing-b3
+unfolding ofBits numberOf unfit aboveLimit depthOf nearest numerator denominator lineNumber weatherOf firstBad sumOf filled judgedLines reading
+reading-b3 = refl
+
+abbrev forcing-b4 : Forcing
+forcing-b4 = forcing-of 1 (fallen 0 2500) (fallen 25250 500)
+
+reading-b4 : reading (call-b4 .lines) 2 2 ≡ forcing-b4
+unfolding ofBits numberOf unfit aboveLimit depthOf nearest numerator denominator lineNumber weatherOf firstBad sumOf filled judgedLines reading
+reading-b4 = refl
+
+-- ---- the sub-basins' steps
+
+abbrev after-step : SubBasin → ℕ → ℕ → ℕ → ℕ → ℕ → ℕ → ℕ → ℕ → ℕ → Stepped
+after-step s eu el ed rb r rs ri rg q =
+    record { number = 0; place = 0; after = s; eu = eu; el = el; ed = ed; rb = rb; r = r; rs = rs; ri = ri; rg = rg; q = q }
+
+step-1-a : stepped sub-1 (fallen 1000 30000) ≡ after-step sub-1-a 10000 1000 1799 0 0 0 625 437 0
+unfolding stepped evaporated deeper ep runoff parted keep outflow content leaving waitingAfter entered
+step-1-a = refl
+
+gain-2-a : gain (sub-2 .fixed) 55000 117801 111911 ≡ 75767
+unfolding gain mm fastRise
+gain-2-a = simp rise-fast
+
+keep-2-a : keep (sub-2 .fixed) 1000 117801 36144 ≡ 7670
+unfolding keep level ms fastRise
+keep-2-a = simp rise-fast
+
+step-2-a : stepped sub-2 (fallen 120500 3000) ≡ after-step sub-2-a 2699 0 0 5890 36144 29474 1150 2684 0
+unfolding stepped evaporated ep runoff rb refilled parted outflow content leaving waitingAfter entered
+step-2-a = rw (gain-2-a, keep-2-a)
+
+gain-1-c : gain (sub-1 .fixed) 28201 136800 123120 ≡ 99857
+unfolding gain mm fastRise
+gain-1-c = simp rise-fast
+
+keep-1-c : keep (sub-1 .fixed) 1438 136800 23263 ≡ 3060
+unfolding keep level ms fastRise
+keep-1-c = simp rise-fast
+
+step-1-c : stepped sub-1-a (fallen 140000 4000) ≡ after-step sub-1-c 3200 0 0 13680 23263 21641 765 535 4338
+unfolding stepped evaporated ep runoff rb refilled parted outflow content leaving waitingAfter entered
+step-1-c = rw (gain-1-c, keep-1-c)
+
+step-2-c : stepped sub-2-a (fallen 1500 40000) ≡ after-step sub-2-c 16500 19499 0 0 0 0 575 1342 0
+unfolding stepped evaporated deeper ep runoff parted keep outflow content leaving waitingAfter entered
+step-2-c = refl
+
+step-1-d : stepped sub-1-c (fallen 0 2500) ≡ after-step sub-1-d 2000 0 0 0 0 0 440 308 142255
+unfolding stepped evaporated deeper ep runoff parted keep outflow content leaving waitingAfter entered
+step-1-d = refl
+
+gain-2-d : gain (sub-2 .fixed) 96268 24801 23561 ≡ 15698
+unfolding gain mm fastRise
+gain-2-d = simp rise-fast
+
+keep-2-d : keep (sub-2 .fixed) 1919 24801 7863 ≡ 7036
+unfolding keep level ms fastRise
+keep-2-d = simp rise-fast
+
+step-2-d : stepped sub-2-c (fallen 25250 500) ≡ after-step sub-2-d 449 0 0 1240 7863 2746 1055 2462 75458
+unfolding stepped evaporated ep runoff rb refilled parted outflow content leaving waitingAfter entered
+step-2-d = rw (gain-2-d, keep-2-d)
+
+-- ---- what the calls hand back
+
+abbrev outcome-1 : Outcome
+outcome-1 = record { number = 0; place = 0; basin = basin-of sub-1-a sub-2-a 0; report = reported 368500 97690 0 773310 0 }
+
+abbrev outcome-2 : Outcome
+outcome-2 = record { number = 6; place = 2; basin = basin-of sub-1-a sub-2-a 0; report = reported 0 0 0 0 0 }
+
+abbrev outcome-3 : Outcome
+outcome-3 = record { number = 0; place = 0; basin = basin-of sub-1-c sub-2-c 3384; report = reported 984500 130397 954 1626459 1 }
+
+abbrev outcome-4 : Outcome
+outcome-4 = record { number = 0; place = 0; basin = basin-of sub-1-d sub-2-d 111907; report = reported 75750 15347 109190 1577672 1 }
+
+taken-1 : taken (basin-of sub-1 sub-2 0) forcing-b1 ≡ outcome-1
+unfolding taken basinAfter sentBy rainVolume lossVolume outletVolume contentOf run filled sumOf send flows reachesAfter water sum outflow content
+taken-1 = rw (step-1-a, step-2-a)
+
+taken-3 : taken (basin-of sub-1-a sub-2-a 0) forcing-b3 ≡ outcome-3
+unfolding taken basinAfter sentBy rainVolume lossVolume outletVolume contentOf run filled sumOf send flows reachesAfter water sum outflow content
+taken-3 = rw (step-1-c, step-2-c)
+
+taken-4 : taken (basin-of sub-1-c sub-2-c 3384) forcing-b4 ≡ outcome-4
+unfolding taken basinAfter sentBy rainVolume lossVolume outletVolume contentOf run filled sumOf send flows reachesAfter water sum outflow content
+taken-4 = rw (step-1-d, step-2-d)
+
+results-b : (b : Basin) → Accounted file-b b calls-b → results b calls-b ≡ outcome-1 ∷ outcome-2 ∷ outcome-3 ∷ outcome-4 ∷ []
+unfolding results
+results-b b h =
+    let o1 : Outcome = stepCall b (call-b1 .lines) 2 in
+    let o2 : Outcome = stepCall (o1 .basin) (call-b2 .lines) 2 in
+    let o3 : Outcome = stepCall (o2 .basin) (call-b3 .lines) 2 in
+    let o4 : Outcome = stepCall (o3 .basin) (call-b4 .lines) 2 in
+    let b1 = outcome-1 .basin in
+    let first =
+    accepted-next (basin-of sub-1 sub-2 0) b call-b1 (call-b2 ∷ call-b3 ∷ call-b4 ∷ []) o1 (o2 ∷ o3 ∷ o4 ∷ []) (rw (← file-basin-b) (h .follows)) forcing-b1
+    reading-b1 refl outcome-1 taken-1
+    in
+    let second = refused-next b1 b1 call-b2 (call-b3 ∷ call-b4 ∷ []) o2 (o3 ∷ o4 ∷ []) (first .1) 6 2 reading-b2 refl in
+    let third = accepted-next b1 b1 call-b3 (call-b4 ∷ []) o3 (o4 ∷ []) (second .1) forcing-b3 reading-b3 refl outcome-3 taken-3 in
+    let fourth = accepted-next (outcome-3 .basin) (outcome-3 .basin) call-b4 [] o4 [] (third .1) forcing-b4 reading-b4 refl outcome-4 taken-4 in
+    ap (λ (o : Outcome). o ∷ o2 ∷ o3 ∷ o4 ∷ []) (first .0)
+    ∙ ap (λ (o : Outcome). outcome-1 ∷ o ∷ o3 ∷ o4 ∷ []) (second .0)
+    ∙ ap (λ (o : Outcome). outcome-1 ∷ outcome-2 ∷ o ∷ o4 ∷ []) (third .0)
+    ∙ ap (λ (o : Outcome). outcome-1 ∷ outcome-2 ∷ outcome-3 ∷ o ∷ []) (fourth .0)
+
+-- ---- the figures
+
+started-b : contentOf (fileBasin file-b) ≡ 502500
+unfolding contentOf sumOf water sum
+started-b = rw file-basin-b
+
+rained-b : rains file-b calls-b ≡ 1428750
+unfolding rains rainOfLines isInside lineInside fromZeroTo every sumOf weatherOf ofBits depthOf nearest numerator denominator fileSub filled wordAt
+rained-b = refl
+
+lost-b : losses (outcome-1 ∷ outcome-2 ∷ outcome-3 ∷ outcome-4 ∷ []) ≡ 353578
+unfolding losses
+lost-b = refl
+
+-- 1,577,672 + 353,578 = 502,500 + 1,428,750
+figures-said : (b : Basin) → Accounted file-b b calls-b → Says file-b calls-b figures-b b
+figures-said b h =
+    said file-b calls-b b h figures-b (outcome-1 ∷ outcome-2 ∷ outcome-3 ∷ outcome-4 ∷ []) (results-b b h) refl started-b rained-b lost-b refl refl refl
+
+always-b : (b : Basin) (calls : List Call) → Accounted file-b b calls → Always file-b figures-b b calls
+always-b b calls h =
+    record {
+      balance-is = h .balance ∙ ap (λ (k : ℕ). k + rains file-b calls) started-b;
+      within-bounds = (
+        held-to file-b calls b h 0 (omega (arith, file-n-b)) sub-1 file-sub-1 (rw file-basin-b),
+        (held-to file-b calls b h 1 (omega (arith, file-n-b)) sub-2 file-sub-2 (rw file-basin-b), tt),
+      );
+    }
+
+pub account-b : Gives file-b calls-b figures-b
+account-b =
+    of-load file-b calls-b figures-b load-b
+    (λ loaded d z. (figures-said (loaded .basin) (d z calls-b), λ calls. always-b (loaded .basin) calls (d z calls)))
