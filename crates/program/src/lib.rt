@@ -6,8 +6,15 @@ mod run;
 pub mod say;
 mod text;
 
+ghost use mathlib.Core.Path.{_≡_};
+ghost use Prim.Native.Nat.{_≤_};
+ghost use lib.ListN.{length};
 ghost use Rattle.io.specs.Counts.{Counts};
+ghost use Rattle.basin.specs.File.{loadCall};
+ghost use Rattle.program.specs.Print.{loadText};
+ghost use Rattle.program.specs.Workers.{Begins, Status};
 use basin::file;
+use basin::file::Loaded;
 use libc::STDERR_FILENO;
 
 // How a run ends: all was read and printed; the load was refused, the forcing ends inside a step, or a file could not be opened; a
@@ -19,14 +26,17 @@ pub const NOT_ALL: u64 = 1;
 pub const FAILED: u64 = 3;
 
 // Runs on the files of these paths, and answers how that ends.
-pub fn account(basin: &[u8], forcing: &[u8]) -> u64 {
+pub fn account(basin: &[u8], forcing: &[u8]) -> u64
+    ensures { λ r. ⌜ Status r ⌝ }
+{
     // No legal basin file is as long as 4,096 bytes, so the start of a longer one is refused as the whole is.
     let mut bytes = io::buffer();
+    let mut out = [0u8; run::OUT_BYTES];
     let start = read_start(basin, &mut bytes);
     let size = start.size;
     let loaded = file::load(&bytes[..size]);
     if loaded.number != 0 {
-        return refuse(start, &bytes[..size], loaded.number, loaded.place);
+        return refuse(&mut out, start, &bytes[..size], loaded);
     }
     let basin = loaded.basin;
     let fd = os::open_read(forcing);
@@ -34,9 +44,9 @@ pub fn account(basin: &[u8], forcing: &[u8]) -> u64 {
         os::fail(b"forcing.bin: could not be opened");
         return NOT_ALL;
     }
-    let ended = run::run(fd, basin);
+    let ran = run::run(fd, basin, &mut out);
     libc::close(fd);
-    ended
+    ran.status
 }
 
 // The start of a file, and how its reading ended.
@@ -48,6 +58,7 @@ struct Start {
 // Puts the start of a file into bytes: nothing of one that can't be opened or read.
 fn read_start(path: &[u8], bytes: &mut [u8]) -> Start
     ensures { λ r. ⌜ Counts (r .size) (now (bytes .exit)) ⌝ }
+    ensures { λ r. ⌜ Status (r .ended) ⌝ }
 {
     let fd = os::open_read(path);
     if fd < 0 {
@@ -75,10 +86,16 @@ fn read_start(path: &[u8], bytes: &mut [u8]) -> Start
 }
 
 // Prints a refused load, and says why where its reading has not said so.
-fn refuse(start: Start, bytes: &[u8], number: u64, place: u64) -> u64 {
-    let printed = print::write_load(number, place);
+fn refuse(out: &mut [u8], start: Start, bytes: &[u8], loaded: Loaded) -> u64
+    requires { ⌜ (129 ≤ length (now out)) × Status (start .ended) ⌝ }
+    requires { ⌜ (loaded ≡ loadCall (now bytes)) × (loaded .number ≡ 0 → ⊥) ⌝ }
+    ensures { λ r. ⌜ Status r ⌝ }
+    ensures { λ r. ⌜ Begins (loadText (loaded .number) (loaded .place)) (now (out .exit)) ⌝ }
+{
+    let end = print::put_load(out, loaded);
+    let printed = print::write(&out[..end], 1);
     if start.ended == ALL {
-        say::refused_load(STDERR_FILENO, bytes, number, place);
+        say::refused_load(STDERR_FILENO, bytes, loaded.number, loaded.place);
     }
     if !printed {
         return FAILED;

@@ -2,7 +2,10 @@
 // any length takes the same room.
 ghost use mathlib.Core.Path.{_≡_};
 ghost use Prim.Native.Nat.{_+_, _*_, _≤_, _<_, _^_};
-ghost use lib.ListN.{length};
+ghost use lib.ListN.{length, take};
+ghost use lib.Seq.{slice};
+ghost use Rattle.program.specs.Print.{partText};
+ghost use Rattle.program.specs.Workers.{Begins, Ends, RunOf, Stepped};
 use crate::ALL;
 use crate::FAILED;
 use crate::NOT_ALL;
@@ -17,17 +20,27 @@ use basin::step::Report;
 use forcing::file;
 use libc::STDERR_FILENO;
 
-// The most steps that are taken at a time.
+// The most steps that are taken at a time, and the most bytes of their lines.
 const STEPS: u64 = 64;
+
+pub const OUT_BYTES: usize = 8256;
 // More reads than a run has time for.
 const READS: u64 = 36028797018963968; // 2^55
 
-// Takes the steps from fd to its end and prints their lines, and answers how that ends.
-pub fn run(fd: i32, basin: Basin) -> u64
-    requires { ⌜ (1 ≤ basin .n) × (basin .n ≤ 32) ⌝ }
+// How a run ended, and how far it came: the last basin, how many steps were taken, and how many bytes came of the one after them.
+pub struct Ran {
+    pub status: u64,
+    pub basin: Basin,
+    pub done: u64,
+    pub kept: usize,
+}
+
+// Takes the steps from fd to its end and prints their lines, which are put at the start of the output.
+pub fn run(fd: i32, basin: Basin, out: &mut [u8]) -> Ran
+    requires { ⌜ (1 ≤ basin .n) × (basin .n ≤ 32) × (8256 ≤ length (now out)) ⌝ }
+    ensures { λ r. ⌜ RunOf basin (r .status) (r .basin) (r .done) (r .kept) (now (out .exit)) ⌝ }
 {
-    let n = basin.n;
-    let size = (file::LINE_BYTES * n) as usize;
+    let size = (file::LINE_BYTES * basin.n) as usize;
     let whole = STEPS as usize * size;
     let mut input = [0u8; 24576];
     let mut kept = 0;
@@ -38,25 +51,50 @@ pub fn run(fd: i32, basin: Basin) -> u64
         let read = read_after(fd, &mut input, kept, whole);
         if read.failed {
             say::unread(done);
-            return FAILED;
+            return answer(FAILED, given, done, kept);
         }
         if read.count == 0 {
-            break;
+            let status = end_run(out, done, kept, size);
+            return answer(status, given, done, kept);
         }
         let end = kept + read.count;
-        let taken = take_steps(&input[..end], given, n, done);
-        if !taken.printed {
-            return FAILED;
+        let taken = take_steps(&input[..end], out, given, basin.n, done);
+        let lines = taken.end;
+        if !print::write(&out[..lines], done + 1) {
+            return answer(FAILED, given, done, kept);
         }
         given = taken.given;
         done += taken.steps;
         kept = keep(&mut input, taken.bytes, end);
         reads += 1;
     }
+    let status = end_run(out, done, kept, size);
+    answer(status, given, done, kept)
+}
+
+fn answer(status: u64, given: Outcome, done: u64, kept: usize) -> Ran
+    ensures { λ r. ⌜ (r .status ≡ status) × (r .basin ≡ given .basin) × (r .done ≡ done) × (r .kept ≡ kept) ⌝ }
+{
+    let basin = given.basin;
+    Ran {
+        status,
+        basin,
+        done,
+        kept,
+    }
+}
+
+// Puts the line of a part step of size bytes, where some of it has come, prints it, and answers how the run ends.
+fn end_run(out: &mut [u8], done: u64, kept: usize, size: usize) -> u64
+    requires { ⌜ (129 ≤ length (now out)) × (done < 2 ^ 62) ⌝ }
+    ensures { λ r. ⌜ Ends kept r ⌝ }
+    ensures { λ r. ⌜ Begins (partText kept) (now (out .exit)) ⌝ }
+{
     if kept == 0 {
         return ALL;
     }
-    let printed = print::write_short(kept as u64, done + 1);
+    let end = print::put_short(out, kept as u64);
+    let printed = print::write(&out[..end], done + 1);
     say::short(STDERR_FILENO, kept as u64, size as u64, done + 1);
     if !printed {
         return FAILED;
@@ -64,20 +102,19 @@ pub fn run(fd: i32, basin: Basin) -> u64
     NOT_ALL
 }
 
-// What the steps of some bytes leave: the last outcome, how many steps and bytes that were, and whether their lines are printed.
+// What the steps of some bytes leave: the last outcome, how many steps and bytes that were, and where their lines end in the output.
 struct Taken {
     given: Outcome,
     steps: u64,
     bytes: usize,
-    printed: bool,
+    end: usize,
 }
 
-// Takes the whole steps of bytes and prints their lines. Before them `done` steps were taken.
-fn take_steps(bytes: &[u8], given: Outcome, n: u64, done: u64) -> Taken
-    requires { ⌜ (1 ≤ n) × (n ≤ 32) × (length (now bytes) ≤ 64 * (12 * n)) × (done < 2 ^ 62) ⌝ }
-    ensures { λ r. ⌜ (r .steps ≤ 64) × (r .bytes ≤ length (now (bytes .entry))) × (length (now (bytes .entry)) < r .bytes + 12 * n) ⌝ }
+// Takes the whole steps of bytes and puts their lines at the start of the output. Before them `done` steps were taken.
+fn take_steps(bytes: &[u8], out: &mut [u8], given: Outcome, n: u64, done: u64) -> Taken
+    requires { ⌜ (1 ≤ n) × (n ≤ 32) × (length (now bytes) ≤ 64 * (12 * n)) × (8256 ≤ length (now out)) × (done < 2 ^ 62) ⌝ }
+    ensures { λ r. ⌜ Stepped (given .basin) n done (now (bytes .entry)) (r .given .basin) (r .steps) (r .bytes) (now (out .exit)) (r .end) ⌝ }
 {
-    let mut out = [0u8; 8256];
     let size = (file::LINE_BYTES * n) as usize;
     let mut given = given;
     let mut at = 0;
@@ -89,30 +126,23 @@ fn take_steps(bytes: &[u8], given: Outcome, n: u64, done: u64) -> Taken
         let before = given.basin;
         given = step::step(before, lines, n);
         let report = given.report;
-        end = print::put_step(
-            &mut out,
-            end,
-            done + i + 1,
-            given.number,
-            given.place,
-            report,
-        );
+        end = print::put_step(out, end, done + i + 1, given.number, given.place, report);
         at = next;
         i += 1;
     }
-    let printed = print::write(&out[..end], done + 1);
     Taken {
         given,
         steps: i,
         bytes: at,
-        printed,
+        end,
     }
 }
 
-// Reads what is there, from index `from` up to index `to`.
+// Reads what is there, from index `from` up to index `to`; what lies before stays.
 fn read_after(fd: i32, input: &mut [u8], from: usize, to: usize) -> Read
     requires { ⌜ (from ≤ to) × (to ≤ length (now input)) ⌝ }
     ensures { λ r. ⌜ from + r .count ≤ to ⌝ }
+    ensures { λ r. ⌜ take from (now (input .exit)) ≡ take from (now (input .entry)) ⌝ }
 {
     calls::read_some(fd, &mut input[from..to])
 }
@@ -121,6 +151,7 @@ fn read_after(fd: i32, input: &mut [u8], from: usize, to: usize) -> Read
 fn keep(input: &mut [u8], from: usize, to: usize) -> usize
     requires { ⌜ (from ≤ to) × (to ≤ length (now input)) ⌝ }
     ensures { λ r. ⌜ r + from ≡ to ⌝ }
+    ensures { λ r. ⌜ take r (now (input .exit)) ≡ slice from to (now (input .entry)) ⌝ }
 {
     let left = to - from;
     let mut i = 0;
@@ -132,7 +163,9 @@ fn keep(input: &mut [u8], from: usize, to: usize) -> usize
 }
 
 // What the first step goes on from: the basin, with nothing reported.
-fn first_given(basin: Basin) -> Outcome {
+fn first_given(basin: Basin) -> Outcome
+    ensures { λ r. ⌜ r .basin ≡ basin ⌝ }
+{
     Outcome {
         number: 0,
         place: 0,

@@ -4,7 +4,7 @@ use libc::STDOUT_FILENO;
 use program::say;
 use testing::lines;
 
-const CASES: u8 = 17;
+const CASES: u8 = 18;
 
 fn main() {
     cases();

@@ -6,10 +6,10 @@ use Rattle.program_cases.proofs.cases.Statement.{statement}
 use Rattle.program_cases.proofs.cases.Tie as tie
 
 abbrev Inv-loop : tie.InvT-loop
-Inv-loop number₀ number = number ≤ 18
+Inv-loop number₀ number = number ≤ 19
 
 abbrev μ-loop : tie.MeasureT-loop
-μ-loop number₀ number = 18 - number
+μ-loop number₀ number = 19 - number
 
 pub cases-spec : {M : Type 1} → statement M
 cases-spec =

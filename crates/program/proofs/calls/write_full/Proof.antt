@@ -1,5 +1,5 @@
 -- `program::calls::write_full` meets its contract: count rises to the bytes' end. Assumes nothing.
-use mathlib.Core.Path.{_≡_, sym}
+use mathlib.Core.Path.{sym}
 use Prim.Native.Nat.{_-_, _≤_}
 use native.Mathlib.Omega.{arith}
 use lib.ListN.{length}

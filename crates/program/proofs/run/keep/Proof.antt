@@ -1,22 +1,32 @@
 -- `program::run::keep` meets its contract: i rises to what is left. Assumes nothing.
-use mathlib.Core.Path.{_≡_}
-use Prim.Native.Nat.{_-_, _≤_}
+use Prim.Native.Nat.{_-_}
 use native.Mathlib.Omega.{arith}
-use lib.ListN.{length, length-set}
+use Rattle.program.proofs.run.KeepLaws.{Keeping, keep-begin, keep-turn, keep-end}
 use Rattle.program.proofs.run.keep.Statement.{statement}
 use Rattle.program.proofs.run.keep.Tie as tie
 
 abbrev Inv-loop : tie.InvT-loop
-Inv-loop input₀ from to left i₀ input i = (i ≤ left) × (length input ≡ length input₀)
+Inv-loop input₀ from to left i₀ input i = Keeping input₀ from left i input
 
 abbrev μ-loop : tie.MeasureT-loop
 μ-loop input₀ from to left i₀ input i = left - i
 
+loop-holds : tie.Need-loop-holds Inv-loop μ-loop
+loop-holds c = keep-begin _ _ _
+
 loop-again : tie.Need-loop-again Inv-loop μ-loop
-loop-again c = (omega arith, simp length-set (omega arith))
+loop-again c = keep-turn (c .before .before .loop .inv) (c .before .loop-test .taken)
+
+same-length : tie.Need-same-length Inv-loop μ-loop
+same-length c = c .before .loop .inv .same-length
+
+returns : tie.Need-returns Inv-loop μ-loop
+returns c =
+    let pre = c .before .before .pre in
+    (omega arith, keep-end (c .before .loop .inv) (c .before .before .args .to) (omega arith) (pre .1) (c .loop-test .left))
 
 pub keep-spec : {M : Type 1} → statement M
 keep-spec =
     tie.close
-    (tie.spec Inv-loop μ-loop (λ c. omega arith) (λ c. omega arith) (λ c. omega arith) (λ c. omega arith) (λ c. omega arith)
-    (λ c. omega arith) (λ c. omega arith) loop-again (λ c. omega arith) (λ c. omega arith))
+    (tie.spec Inv-loop μ-loop (λ c. omega arith) loop-holds (λ c. omega arith) (λ c. omega arith) (λ c. omega arith)
+    (λ c. omega arith) (λ c. omega arith) loop-again same-length returns)

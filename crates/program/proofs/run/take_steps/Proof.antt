@@ -1,68 +1,63 @@
--- `program::run::take_steps` meets its contract. The invariant of its loop: i steps have used the bytes before `at`, and their lines, of
--- at most 129 bytes each, end at `end`. The measure is the count of bytes that are left. Assumes nothing.
-use mathlib.Core.Path.{_≡_, sym}
-use Prim.Native.Nat.{ℕ, _+_, _*_, _-_, _≤_, _<_}
-use native.Mathlib.Nat.{suc-mul, le-of-mul-le-mul-right, lt-of-mul-lt-mul-right}
+-- `program::run::take_steps` meets its contract: i steps are taken. The measure is the count of bytes that are left. Assumes nothing.
+use mathlib.Core.Path.{_≡_}
+use Prim.Native.Nat.{_-_, _<_}
 use native.Mathlib.Omega.{arith}
 use lib.ListN.{length}
-use lib.Seq.{length-take-le}
 use borrow.Author.Needs.{needs}
+use Rattle.program.proofs.run.TakeLaws.{Taking, take-begin, take-few, take-most, take-turn, take-end}
 use Rattle.program.proofs.run.take_steps.Statement.{statement}
 use Rattle.program.proofs.run.take_steps.Tie as tie
 
 abbrev Inv-loop : tie.InvT-loop
-Inv-loop bytes n done out₀ size given₀ at₀ end₀ i₀ out given at end i = (at ≡ i * size) × (at ≤ length bytes) × (end ≤ 129 * i) × (8256 ≡ length out) × (size ≡ 12 * n)
+Inv-loop bytes out₀ n done size given₀ at₀ end₀ i₀ out given at end i =
+    (length out ≡ length out₀) × Taking (given₀ .basin) n done bytes i at end (given .basin) out
 
 abbrev μ-loop : tie.MeasureT-loop
-μ-loop bytes n done out₀ size given₀ at₀ end₀ i₀ out given at end i = length bytes - at
+μ-loop bytes out₀ n done size given₀ at₀ end₀ i₀ out given at end i = length bytes - at
 
--- Where another step is there, fewer than 64 were taken.
-few : (i size : ℕ) {at : ℕ} → at ≡ i * size → at + size ≤ 64 * size → 1 ≤ size → i < 64
-few i size e h p = lt-of-mul-lt-mul-right size (omega (arith, e, h))
+-- where another step is there, fewer than 64 were taken
+few : (c : tie.In-loop Inv-loop μ-loop) → c .before .loop .i < 64
+few c =
+    let pre = c .before .before .before .before .pre in
+    take-few (c .before .loop .inv .1) (pre .0) (pre .2) (omega arith)
 
-most : (i size : ℕ) {at : ℕ} → at ≡ i * size → at ≤ 64 * size → 1 ≤ size → i ≤ 64
-most i size e h p = le-of-mul-le-mul-right {k = size} (omega (arith, e, h)) (omega arith)
+loop-holds : tie.Need-loop-holds Inv-loop μ-loop
+loop-holds c = (omega arith, take-begin _ _ _ _ _)
 
 add-put-step : tie.Need-add-put-step Inv-loop μ-loop
-add-put-step c =
-    let head = c .before .before .before .before .before .before .before in
-    omega (arith, few _ _ (head .loop .inv .0) (omega arith) (omega arith))
+add-put-step c = omega (arith, few (c .before .before .before .before .before .before))
 
 add-put-step-2 : tie.Need-add-put-step-2 Inv-loop μ-loop
-add-put-step-2 c =
-    let head = c .before .before .before .before .before .before .before in
-    omega (arith, few _ _ (head .loop .inv .0) (omega arith) (omega arith))
+add-put-step-2 c = omega (arith, few (c .before .before .before .before .before .before))
 
 put-step-requires : tie.Need-put-step-requires Inv-loop μ-loop
-put-step-requires c κs =
-    let head = c .before .before .before .before .before .before .before in
-    omega (arith, few _ _ (head .loop .inv .0) (omega arith) (omega arith))
+put-step-requires c κs = omega (arith, few (c .before .before .before .before .before .before))
 
 add-i : tie.Need-add-i Inv-loop μ-loop
-add-i c =
-    let head = c .before .before .before .before .before .before .before .before .before in
-    omega (arith, few _ _ (head .loop .inv .0) (omega arith) (omega arith))
+add-i c = omega (arith, few (c .before .before .before .before .before .before .before .before .before))
 
 loop-again : tie.Need-loop-again Inv-loop μ-loop
 loop-again c =
-    let head = c .before .before .before .before .before .before .before .before .before in
-    (omega (arith, suc-mul (head .loop .i) (12 * head .before .before .args .n)), omega arith, omega arith, omega arith, omega arith)
-
-array-share-prefix-out : tie.Need-array-share-prefix-out Inv-loop μ-loop
-array-share-prefix-out c = omega (arith, most _ _ (c .before .loop .inv .0) (omega arith) (omega arith))
-
-slice-aggregate-write : tie.Need-slice-aggregate-write Inv-loop μ-loop
-slice-aggregate-write c =
-    let head = c .before .before in
-    sym (length-take-le (head .loop .end) _ (omega (arith, most _ _ (head .loop .inv .0) (omega arith) (omega arith))))
+    let put = c .before .before in
+    let step = put .before .before .before in
+    let lines = step .before .before in
+    let turn = lines .before .before in
+    let head = turn .before in
+    let pre = head .before .before .before .pre in (
+      omega arith,
+      take-turn (head .loop .inv .1) (pre .0) (pre .2) (omega arith) (lines .lines-of .ensures) (step .step .ensures .0) (put .put-step .ensures .0)
+          (put .put-step .ensures .1),
+    )
 
 returns : tie.Need-returns Inv-loop μ-loop
-returns c = (omega (arith, most _ _ (c .before .before .before .loop .inv .0) (omega arith) (omega arith)), omega arith, omega arith)
+returns c =
+    let pre = c .before .before .before .before .pre in
+    take-end (c .before .loop .inv .1) (pre .0) (pre .2) (omega arith)
+    (omega (arith, take-most (c .before .loop .inv .1) (pre .0) (pre .2)))
 
 pub take-steps-spec : {M : Type 1} → statement M
 take-steps-spec =
     tie.close
-    (tie.spec Inv-loop μ-loop (λ c. omega arith) (λ c. omega arith) (λ c. omega arith) (λ c. omega arith) (λ c. omega arith)
-    (λ c. omega arith) (λ c. omega arith) (λ c κs. search needs) (λ c κs. search needs) (λ c. omega arith) add-put-step add-put-step-2
-    put-step-requires add-i (λ c. omega arith) loop-again array-share-prefix-out slice-aggregate-write (λ c. omega arith)
-    (λ c κs. search needs) returns)
+    (tie.spec Inv-loop μ-loop (λ c. omega arith) loop-holds (λ c. omega arith) (λ c. omega arith) (λ c. omega arith)
+    (λ c. omega arith) (λ c. omega arith) (λ c κs. search needs) (λ c κs. search needs) add-put-step add-put-step-2
+    put-step-requires add-i (λ c. omega arith) loop-again (λ c. omega arith) returns)

@@ -1,18 +1,13 @@
 -- `program::text::put_number` meets its contract: a u64 has at most 20 digits. Assumes nothing.
-use mathlib.Core.Logic.{⊎-elim}
-use Prim.Native.Nat.{ℕ, _-_, _^_, _≤_, _<_}
-use native.Mathlib.Nat.{eq-zero-or-pos, pow-le-pow-right}
+use mathlib.Core.Path.{ap, _∙_}
+use mathlib.Core.List.{List, _++_}
+use Prim.Native.Nat.{ℕ}
 use native.Mathlib.Omega.{arith}
-use Rattle.io.specs.Digits.{Fewest}
+use lib.ListN.{take}
 use borrow.Author.Needs.{needs}
+use Rattle.program.proofs.text.TextLaws.{digits-most, digits-decimal}
 use Rattle.program.proofs.text.put_number.Statement.{statement}
 use Rattle.program.proofs.text.put_number.Tie as tie
-
-digits-most : (n k : ℕ) → n < 2 ^ 64 → Fewest 10 1 n k → k ≤ 20
-digits-most n k h f = ⊎-elim (λ e. omega arith) more (eq-zero-or-pos (k - 20))
-  where
-    more : 0 < k - 20 → k ≤ 20
-    more p = omega (arith, pow-le-pow-right {n = 10} (omega arith) {i = 20} {j = k - 1} (omega arith), f .2 (omega arith))
 
 put-requires : tie.Need-put-requires
 put-requires c κs =
@@ -24,8 +19,17 @@ returns : tie.Need-returns
 returns c =
     let spelt = c .before .before .before .before .before in
     let start = spelt .before .before .before in
-    let written = c .before .before .put .ensures .1 in
-    (omega (arith, digits-most (start .args .n) (spelt .decimal .result) (start .fits .n .fits) (spelt .decimal .ensures .1 .0)), search written)
+    let n = start .args .n in
+    let k = spelt .decimal .result in
+    let fewest = spelt .decimal .ensures .1 .0 in
+    let written = c .before .before .put .ensures .1 in (
+      omega (arith, digits-most n k (start .fits .n .fits) fewest),
+      (
+        written .0,
+        written .1
+            ∙ ap (λ (l : List ℕ). take (start .args .at) (start .args .out .now) ++ l) (spelt .decimal .ensures .1 .1 ∙ digits-decimal n k fewest),
+      ),
+    )
 
 pub put-number-spec : {M : Type 1} → statement M
 put-number-spec =

@@ -1,0 +1,2 @@
+-- Text: a number in decimal, and text that is put after text.
+pub mod TextLaws
