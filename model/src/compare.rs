@@ -16,6 +16,10 @@ struct Tally {
     refused: u64,
     short: u64,
     unread: u64,
+    /// Accepted steps with estimated lines.
+    estimated: u64,
+    /// Cases of more than two blocks of steps.
+    long: u64,
 }
 
 /// Compares on the cases of the seeds first..last. At a difference it stops, and its folder stays.
@@ -97,20 +101,58 @@ impl Tally {
     fn count(&mut self, expected: &Left) {
         self.cases += 1;
         self.unread += u64::from(expected.status == "3");
+        let steps = self.accepted + self.refused;
         for line in String::from_utf8_lossy(&expected.printed).lines() {
             match line.split(' ').nth(1) {
                 _ if line.starts_with("load ") => self.loads_refused += 1,
                 _ if line.starts_with("short ") => self.short += 1,
-                Some("ok") => self.accepted += 1,
+                Some("ok") => {
+                    self.accepted += 1;
+                    self.estimated += u64::from(!line.ends_with(" 0"));
+                }
                 _ => self.refused += 1,
             }
         }
+        self.long += u64::from(self.accepted + self.refused > steps + 2 * program::STEPS as u64);
     }
 
     fn print(&self, out: &mut impl Write) -> io::Result<()> {
-        let Tally { cases, loads_refused, accepted, refused, short, unread } = self;
-        write!(out, "{cases} cases agree: {loads_refused} loads refused, ")?;
-        write!(out, "{accepted} steps accepted, {refused} refused, {short} short, ")?;
-        writeln!(out, "{unread} failed reads")
+        let Tally { cases, loads_refused, accepted, refused, short, unread, estimated, long } =
+            self;
+        write!(out, "{cases} cases agree, {long} of them of more than two blocks of steps: ")?;
+        write!(out, "{loads_refused} loads refused, {accepted} steps accepted, {estimated} of ")?;
+        writeln!(
+            out,
+            "them with estimated lines, {refused} refused, {short} short, {unread} failed reads"
+        )
+    }
+}
+
+#[cfg(test)]
+mod tests {
+    use super::*;
+
+    /// The gate compares on the cases 1 to 300.
+    #[test]
+    fn the_gates_cases_are_of_every_kind() {
+        let all = std::env::temp_dir().join(format!("account-kinds-{}", std::process::id()));
+        let mut tally = Tally::default();
+        for seed in 1..=300u64 {
+            let folder = all.join(seed.to_string());
+            random::write(&random::case(seed), &folder).unwrap();
+            tally.count(&expected(&folder).unwrap());
+        }
+        fs::remove_dir_all(&all).unwrap();
+        let Tally { loads_refused, accepted, refused, short, estimated, long, .. } = tally;
+        for (kind, count) in [
+            ("loads refused", loads_refused),
+            ("accepted", accepted),
+            ("refused", refused),
+            ("short", short),
+            ("estimated", estimated),
+            ("long", long),
+        ] {
+            assert!(count >= 10, "{kind}: {count}");
+        }
     }
 }

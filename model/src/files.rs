@@ -45,3 +45,23 @@ pub fn case_a() -> Files {
     let steps = [line(MEASURED, 135.0, 0.0), line(MISSING, 0.0, 0.0), line(MEASURED, 0.0, 10.0)];
     Files::of(words, &steps)
 }
+
+/// Case B: two sub-basins, the first above a reach, no two shares alike, estimated lines and a refused one.
+pub fn case_b() -> Files {
+    let words = [
+        [2, 1].as_slice(),
+        &[7, 52_429, 12_000, 80_000, 45_000, 13_107, 20, 6_554, 18_000, 26, 16_384, 11_469],
+        &[36_045, 60_293, 29_491, 1, 1, 9_000, 1_000, 30_000, 2_500, 1_200, 3_400],
+        &[3, 58_982, 15_000, 70_000, 50_000, 8_520, 22, 3_277, 25_000, 28, 9_830, 22_938],
+        &[49_152, 63_570, 19_661, 2, 0, 5_000, 30_000, 20_000, 1_000, 700, 900],
+        &[14_418, 32_768, 0],
+    ]
+    .concat();
+    let steps = [
+        [line(MEASURED, 1.0, 30.0), line(MEASURED, 120.5, 3.0)],
+        [line(MEASURED, 12.0, 1.0), line(MISSING, 0.0, 0.0)],
+        [line(ESTIMATED, 140.0, 4.0), line(MEASURED, 1.5, 40.0)],
+        [line(MEASURED, 0.0, 2.5), line(ESTIMATED, 25.25, 0.5)],
+    ];
+    Files::of(words, steps.as_flattened())
+}

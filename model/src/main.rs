@@ -7,6 +7,7 @@ use std::process::ExitCode;
 const USAGE: &str = "usage:
   model run FOLDER                   what the program must print and say on basin.bin and forcing.bin, and its status
   model case-a FOLDER                makes case A's files
+  model case-b FOLDER                makes case B's files, two sub-basins with a reach
   model sample FOLDER                makes the sample's files
   model make SEED FOLDER             makes a random case
   model compare ACCOUNT FIRST LAST   holds a built program to the model, on cases FIRST to LAST
@@ -37,6 +38,7 @@ fn obey(words: &[&str], out: &mut impl Write) -> io::Result<u8> {
     }
     match *words {
         ["case-a", folder] => files::case_a().write(folder.as_ref()),
+        ["case-b", folder] => files::case_b().write(folder.as_ref()),
         ["sample", folder] => sample::files().write(folder.as_ref()),
         ["make", seed, folder] => random::write(&random::case(number(seed)?), folder.as_ref()),
         ["compare", account, first, last] => {

@@ -11,7 +11,7 @@ use std::path::Path;
 /// Bytes of a forcing line.
 const LINE: usize = 12;
 /// Steps that are read and printed at a time.
-const STEPS: usize = 64;
+pub const STEPS: usize = 64;
 
 /// How a run ends: what it says on standard error, and its status.
 #[derive(Debug, PartialEq, Eq)]

@@ -4,6 +4,7 @@ mod basin_series;
 mod curve_cases;
 mod draft;
 mod draw;
+mod embedding;
 mod file_cases;
 mod forcing_cases;
 pub mod program_cases;
@@ -13,8 +14,9 @@ use crate::{files, program};
 use std::io::{self, Write};
 
 #[rustfmt::skip]
-const NAMES: [&str; 7] = [
-    "curve_cases", "subbasin_series", "forcing_cases", "file_cases", "basin_series", "program_cases", "account",
+const NAMES: [&str; 8] = [
+    "curve_cases", "subbasin_series", "forcing_cases", "file_cases", "basin_series", "program_cases", "embedding",
+    "account",
 ];
 
 pub fn names(out: &mut impl Write) -> io::Result<()> {
@@ -29,6 +31,7 @@ pub fn print(name: &str, out: &mut impl Write) -> io::Result<()> {
         "file_cases" => file_cases::print(out),
         "basin_series" => basin_series::print(out),
         "program_cases" => program_cases::print(out),
+        "embedding" => embedding::print(out),
         "account" => {
             let files = files::case_a();
             program::run(&files.basin, &files.forcing[..], out).map(|_| ())

@@ -1,7 +1,7 @@
 //! `program_cases`: the program's work on damaged and missing files, and all that it says of a refused load.
 
 use crate::bench;
-use crate::files::{bytes, case_a, line, Files, LineWords, ESTIMATED, MEASURED, MISSING};
+use crate::files::{bytes, case_a, case_b, line, Files, LineWords, ESTIMATED, MEASURED, MISSING};
 use crate::program;
 use crate::random::{self, Case, Put};
 use crate::words;
@@ -37,7 +37,12 @@ fn cases() -> Vec<Case> {
         on_a(estimated(64)),
         on_a([&estimated(65)[..], &[2; 7]].concat()),
         widest(),
+        with_both(case_b()),
     ]
+}
+
+fn with_both(files: Files) -> Case {
+    case(files.basin, files.forcing)
 }
 
 fn case(basin: Vec<u8>, forcing: Vec<u8>) -> Case {
