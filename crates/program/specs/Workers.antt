@@ -1,15 +1,17 @@
 -- What the private functions require and answer: no part of document 01.
 use mathlib.Core.Path.{_≡_}
 use mathlib.Core.Bool.{Bool, cond}
-use mathlib.Core.List.{List}
+use mathlib.Core.List.{List, _++_}
 use mathlib.Core.Logic.{_⊎_}
 use Prim.Native.Nat.{ℕ, _+_, _*_, _≤_, _<_}
 use lib.Dec.{eqb}
 use lib.ListN.{length, take}
 use Rattle.io.specs.Counts.{Counts}
 use Rattle.basin.specs.declared.state.Basin.{Basin}
+use Rattle.basin.specs.declared.step.Report.{Report}
 use Rattle.basin.specs.File.{loadCall}
 use Rattle.basin.specs.Account.{Call, lastBasin}
+use Rattle.program.specs.Print.{decimal, blank, newline}
 use Rattle.program.specs.Print.{shortText, partText, stepBytes, wholeSteps, partBytes, callsOf, stepsText, printed}
 
 -- Lines that may be written, the first of them as line `first`: all that is printed where the load is refused, those of steps, that of a part
@@ -18,6 +20,10 @@ pub data Lines (first : ℕ) (lines : List ℕ) : Type 0 where
   of-load : (basin forcing : List ℕ) → (loadCall basin .number ≡ 0 → ⊥) → lines ≡ printed basin forcing → Lines first lines
   of-steps : (b : Basin) (done : ℕ) (calls : List Call) → first ≡ done + 1 → lines ≡ stepsText b done calls → Lines first lines
   of-part : (count : ℕ) → 1 ≤ count → lines ≡ shortText count → Lines first lines
+
+-- the end of an accepted step's line: outlet volume, content and estimated lines
+abbrev pub endingText : Report → List ℕ
+endingText report = blank ++ decimal (report .outlet) ++ blank ++ decimal (report .content) ++ blank ++ decimal (report .estimated) ++ newline
 
 -- Bytes, and what taking their whole steps leaves: the steps taken one after the other from basin b, when `done` steps had been taken,
 -- and their lines in the output up to index `end`.

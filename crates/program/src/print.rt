@@ -6,7 +6,7 @@ ghost use Prim.Native.Nat.{_+_, _≤_, _<_, _^_};
 ghost use lib.ListN.{length, take};
 ghost use Rattle.io.specs.Counts.{Counts};
 ghost use Rattle.program.specs.Print.{loadText, acceptedText, refusedText, stepText, shortText};
-ghost use Rattle.program.specs.Workers.{Lines};
+ghost use Rattle.program.specs.Workers.{Lines, endingText};
 use crate::calls;
 use crate::say;
 use crate::text;
@@ -75,10 +75,19 @@ fn put_accepted(out: &mut [u8], at: usize, step: u64, report: Report) -> usize
     let e0 = text::put_number(out, at, step);
     let e1 = text::put_with(out, e0, b" ok ", report.rain);
     let e2 = text::put_with(out, e1, b" ", report.evapotranspiration);
-    let e3 = text::put_with(out, e2, b" ", report.outlet);
-    let e4 = text::put_with(out, e3, b" ", report.content);
-    let e5 = text::put_with(out, e4, b" ", report.estimated);
-    text::put(out, e5, b"\n")
+    put_ending(out, e2, report)
+}
+
+// The end of an accepted step's line: outlet volume, content and estimated lines.
+fn put_ending(out: &mut [u8], at: usize, report: Report) -> usize
+    requires { ⌜ at + 64 ≤ length (now out) ⌝ }
+    ensures { λ r. ⌜ r ≤ at + 64 ⌝ }
+    ensures { λ r. ⌜ take r (now (out .exit)) ≡ take at (now (out .entry)) ++ endingText report ⌝ }
+{
+    let e0 = text::put_with(out, at, b" ", report.outlet);
+    let e1 = text::put_with(out, e0, b" ", report.content);
+    let e2 = text::put_with(out, e1, b" ", report.estimated);
+    text::put(out, e2, b"\n")
 }
 
 fn put_refused(out: &mut [u8], at: usize, step: u64, number: u64, place: u64) -> usize

@@ -4,7 +4,7 @@ ghost use mathlib.Core.Path.{_≡_};
 ghost use Prim.Native.Nat.{_+_, _*_, _≤_, _<_, _^_};
 ghost use lib.ListN.{length, take};
 ghost use lib.Seq.{slice};
-ghost use Rattle.program.specs.Print.{partText};
+ghost use Rattle.program.specs.Print.{stepBytes, partText};
 ghost use Rattle.program.specs.Workers.{Begins, Ends, RunOf, Stepped};
 use crate::ALL;
 use crate::FAILED;
@@ -112,7 +112,7 @@ struct Taken {
 
 // Takes the whole steps of bytes and puts their lines at the start of the output. Before them `done` steps were taken.
 fn take_steps(bytes: &[u8], out: &mut [u8], given: Outcome, n: u64, done: u64) -> Taken
-    requires { ⌜ (1 ≤ n) × (n ≤ 32) × (length (now bytes) ≤ 64 * (12 * n)) × (8256 ≤ length (now out)) × (done < 2 ^ 62) ⌝ }
+    requires { ⌜ (1 ≤ n) × (n ≤ 32) × (length (now bytes) ≤ 64 * stepBytes n) × (8256 ≤ length (now out)) × (done < 2 ^ 62) ⌝ }
     ensures { λ r. ⌜ Stepped (given .basin) n done (now (bytes .entry)) (r .given .basin) (r .steps) (r .bytes) (now (out .exit)) (r .end) ⌝ }
 {
     let size = (file::LINE_BYTES * n) as usize;

@@ -176,3 +176,7 @@ module _ (f : List ℕ) {loaded : Loaded} (e : loaded ≡ loadCall f) where
               ∙ ap (λ (v : List ℕ). getD v k 0) (reach-words-held f j l (load-limits f (accepted z) .m-most))
               ∙ table-in (λ k. wordAt f (reachStart (fileN f) j + k)) 0 reachWordCount reachWordCount k b b;
         }
+
+-- of the basin of an accepted load: "N 1..32"
+pub loaded-n : {f : List ℕ} {b : Basin} → FileIn f → Holds f b → (1 ≤ b .n) × (b .n ≤ mostSubs)
+loaded-n limits held = rw (held .n-held) (limits .n-least, limits .n-most)

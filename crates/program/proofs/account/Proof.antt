@@ -5,9 +5,9 @@ use mathlib.Core.Logic.{inl, inr}
 use Prim.Native.Nat.{ℕ, zero, suc}
 use native.Mathlib.Omega.{arith}
 use lib.Dec.{eqb·suc-zero}
+use Rattle.basin.proofs.file.LoadedLaws.{loaded-n}
 use Rattle.program.specs.Workers.{Status, statusOf, Ends}
 use borrow.Author.Needs.{needs}
-use Rattle.program.proofs.run.PrintedLaws.{loaded-n}
 use Rattle.program.proofs.account.Statement.{statement}
 use Rattle.program.proofs.account.Tie as tie
 
@@ -25,7 +25,8 @@ returns-2 c = inr (inl refl)
 run-requires : tie.Need-run-requires
 run-requires c κs =
     let accepted = c .before .before .before .before in
-    let counted = loaded-n _ (accepted .before .before .load .ensures .0) (accepted .if1 .left) in
+    let load = accepted .before .before .load .ensures .1 in
+    let counted = loaded-n (load .0 .0 (accepted .if1 .left)) (load .1 .0 (accepted .if1 .left)) in
     (counted .0, counted .1, omega arith)
 
 returns-3 : tie.Need-returns-3

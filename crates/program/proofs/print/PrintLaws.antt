@@ -6,7 +6,7 @@ use borrow.Author.Tests.{eq-eqb, ne-eqb}
 use Rattle.basin.specs.declared.step.Report.{Report}
 use Rattle.program.specs.Print.{decimal, load, ok, refused, short, blank, newline}
 use Rattle.program.specs.Print.{loadText, acceptedText, refusedText, stepText, shortText, partText}
-use Rattle.program.specs.Workers.{Begins}
+use Rattle.program.specs.Workers.{Begins, endingText}
 
 -- a number, with a text before it
 abbrev pub with : List ℕ → ℕ → List ℕ
@@ -30,16 +30,18 @@ module _ (t : List ℕ) {t₁ t₂ t₃ t₄ : List ℕ} (step number place : �
   unfolding refusedText
   refused-put d e f g = rw (g, f, e, d) (simp append-assoc)
 
-module _ (t : List ℕ) {t₁ t₂ t₃ t₄ t₅ t₆ t₇ : List ℕ} (step : ℕ) (report : Report) where
-  pub accepted-put : t₁ ≡ t ++ decimal step → t₂ ≡ t₁ ++ with (blank ++ ok ++ blank) (report .rain)
+module _ (t : List ℕ) {t₁ t₂ t₃ t₄ : List ℕ} (report : Report) where
+  pub ending-put : t₁ ≡ t ++ with blank (report .outlet) → t₂ ≡ t₁ ++ with blank (report .content) → t₃ ≡ t₂ ++ with blank (report .estimated)
+      → t₄ ≡ t₃ ++ newline
+      → t₄ ≡ t ++ endingText report
+  ending-put e f g h = rw (h, g, f, e) (simp append-assoc)
+
+  pub accepted-put : (step : ℕ) → t₁ ≡ t ++ decimal step → t₂ ≡ t₁ ++ with (blank ++ ok ++ blank) (report .rain)
       → t₃ ≡ t₂ ++ with blank (report .evapotranspiration)
-      → t₄ ≡ t₃ ++ with blank (report .outlet)
-      → t₅ ≡ t₄ ++ with blank (report .content)
-      → t₆ ≡ t₅ ++ with blank (report .estimated)
-      → t₇ ≡ t₆ ++ newline
-      → t₇ ≡ t ++ acceptedText step report
+      → t₄ ≡ t₃ ++ endingText report
+      → t₄ ≡ t ++ acceptedText step report
   unfolding acceptedText
-  accepted-put e₁ e₂ e₃ e₄ e₅ e₆ e₇ = rw (e₇, e₆, e₅, e₄, e₃, e₂, e₁) (simp append-assoc)
+  accepted-put step e f g h = rw (h, g, f, e) (simp append-assoc)
 
 module _ (step number place : ℕ) (report : Report) where
   pub accepted-line : number ≡ 0 → stepText step number place report ≡ acceptedText step report

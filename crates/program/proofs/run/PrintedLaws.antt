@@ -8,10 +8,9 @@ use lib.ListN.{length, drop, length-append, length-drop}
 use lib.Seq.{drop-nil, drop-drop}
 use borrow.Author.Tests.{eq-eqb, ne-eqb}
 use Rattle.basin.specs.declared.state.Basin.{Basin}
-use Rattle.basin.specs.declared.file.Loaded.{Loaded}
-use Rattle.basin.specs.File.{fileBasin, loadCall}
+use Rattle.basin.specs.File.{loadCall}
 use Rattle.basin.specs.Account.{lastBasin}
-use Rattle.basin.proofs.file.LoadedLaws.{load-limits, load-holds-file}
+use Rattle.basin.proofs.file.LoadedLaws.{accepted-within, words-loaded, loaded-n}
 use Rattle.program.specs.Print.{stepBytes, callsIn, wholeSteps, partBytes, callsOf, loadText, stepsText, partText, runText, printed}
 use Rattle.program.proofs.run.CallsLaws.{last-append, text-append, calls-length}
 use Rattle.program.proofs.run.CallsLaws.{whole-is, part-is, whole-least, whole-most, rest-more, calls-rest}
@@ -80,14 +79,6 @@ module _ (n : ℕ) (some : 1 ≤ n) (first : Basin) where
 
 -- ---- all that is printed
 
--- the basin of an accepted load has 1 to 32 sub-basins
-pub loaded-n : (f : List ℕ) {loaded : Loaded} → loaded ≡ loadCall f → loaded .number ≡ 0 → (1 ≤ loaded .basin .n) × (loaded .basin .n ≤ 32)
-unfolding fileBasin
-loaded-n f e accepted =
-    let as-defined : loadCall f .number ≡ 0 = rw e at accepted in
-    let limits = load-limits f as-defined in
-    rw (e, load-holds-file f as-defined) (limits .n-least, limits .n-most)
-
 pub printed-refused : (basin forcing : List ℕ) → (loadCall basin .number ≡ 0 → ⊥)
     → printed basin forcing ≡ loadText (loadCall basin .number) (loadCall basin .place)
 unfolding printed
@@ -98,4 +89,4 @@ pub printed-by-reads : (basin : List ℕ) → loadCall basin .number ≡ 0 → (
 unfolding runText printed
 printed-by-reads basin good reads =
     rw (eq-eqb (loadCall basin .number) 0 good)
-    (reads-text (loadCall basin .basin .n) (loaded-n basin refl good .0) (loadCall basin .basin) reads)
+    (reads-text (loadCall basin .basin .n) (loaded-n (accepted-within basin refl .0 good) (words-loaded basin refl good) .0) (loadCall basin .basin) reads)
