@@ -41,6 +41,10 @@ pub record Stepped (b : Basin) (n done : ℕ) (bytes : List ℕ) (after : Basin)
 pub record Begins (text out : List ℕ) : Type 0 where
   pub start-is : take (length text) out ≡ text
 
+-- the bytes that are read of a file: no more than 4,096
+abbrev pub StartOf : List ℕ → List ℕ → Type 0
+StartOf file bytes = bytes ≡ take 4096 file
+
 -- How a run ends that keeps so many bytes of a part step: FAILED where a read or a write failed, else ALL where there are none, else
 -- NOT_ALL.
 abbrev pub statusOf : Bool → ℕ → ℕ

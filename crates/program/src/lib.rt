@@ -7,12 +7,13 @@ pub mod say;
 mod text;
 
 ghost use mathlib.Core.Path.{_≡_};
-ghost use Prim.Native.Nat.{_≤_};
+ghost use mathlib.Core.List.{List};
+ghost use Prim.Native.Nat.{ℕ, _≤_};
 ghost use lib.ListN.{length};
 ghost use Rattle.io.specs.Counts.{Counts};
 ghost use Rattle.basin.specs.File.{loadCall};
-ghost use Rattle.program.specs.Print.{loadText};
-ghost use Rattle.program.specs.Workers.{Begins, Status};
+ghost use Rattle.program.specs.Print.{loadText, printed};
+ghost use Rattle.program.specs.Workers.{Begins, StartOf, Status};
 use basin::file;
 use basin::file::Loaded;
 use libc::STDERR_FILENO;
@@ -29,7 +30,7 @@ pub const FAILED: u64 = 3;
 pub fn account(basin: &[u8], forcing: &[u8]) -> u64
     ensures { λ r. ⌜ Status r ⌝ }
 {
-    // No legal basin file is as long as 4,096 bytes, so the start of a longer one is refused as the whole is.
+    // 4,096 bytes, which no legal basin file has: the start of a longer one is refused as the whole is.
     let mut bytes = io::buffer();
     let mut out = [0u8; run::OUT_BYTES];
     let start = read_start(basin, &mut bytes);
@@ -85,12 +86,14 @@ fn read_start(path: &[u8], bytes: &mut [u8]) -> Start
     }
 }
 
-// Prints a refused load, and says why where its reading has not said so.
+// Prints a refused load, and says why where its reading has not said so. What is printed is all that document 01 has for every file that
+// starts with these bytes.
 fn refuse(out: &mut [u8], start: Start, bytes: &[u8], loaded: Loaded) -> u64
     requires { ⌜ (129 ≤ length (now out)) × Status (start .ended) ⌝ }
     requires { ⌜ (loaded ≡ loadCall (now bytes)) × (loaded .number ≡ 0 → ⊥) ⌝ }
     ensures { λ r. ⌜ Status r ⌝ }
     ensures { λ r. ⌜ Begins (loadText (loaded .number) (loaded .place)) (now (out .exit)) ⌝ }
+    ensures { λ r. ⌜ ((file forcing : List ℕ) → StartOf file (now (bytes .entry)) → Begins (printed file forcing) (now (out .exit))) ⌝ }
 {
     let end = print::put_load(out, loaded);
     let printed = print::write(&out[..end], 1);

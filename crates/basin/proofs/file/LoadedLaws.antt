@@ -5,10 +5,12 @@ use mathlib.Core.List.{List, []}
 use mathlib.Core.Logic.{_↔_}
 use Prim.Native.Nat.{ℕ, suc, _+_, _*_, _≤_, _<_}
 use native.Mathlib.Nat.{add-zero}
+use native.Mathlib.Decide.{decLe}
 use native.Mathlib.Omega.{arith}
 use lib.Dec.{ltb, eqb}
-use lib.ListN.{length, getD, replicate}
-use borrow.Author.Tests.{le-ltb, eq-eqb, eqb-true}
+use lib.ListN.{length, getD, take, replicate}
+use lib.Seq.{getD-take, take-all, length-take-le}
+use borrow.Author.Tests.{le-ltb, eq-eqb, ne-eqb, eqb-true}
 use Rattle.common.specs.Limits.{within, firstOut}
 use Rattle.common.specs.Loops.{filled, table}
 use Rattle.common.specs.Bytes.{wordAt}
@@ -180,3 +182,44 @@ module _ (f : List ℕ) {loaded : Loaded} (e : loaded ≡ loadCall f) where
 -- of the basin of an accepted load: "N 1..32"
 pub loaded-n : {f : List ℕ} {b : Basin} → FileIn f → Holds f b → (1 ≤ b .n) × (b .n ≤ mostSubs)
 loaded-n limits held = rw (held .n-held) (limits .n-least, limits .n-most)
+
+-- ---- a file that is longer than any legal one is refused as its start is
+
+word-start : (k : ℕ) (f : List ℕ) (i : ℕ) → 4 * i + 3 < k → wordAt (take k f) i ≡ wordAt f i
+unfolding wordAt
+word-start k f i h =
+    rw (
+      getD-take k f (4 * i) 0 (omega arith),
+      getD-take k f (4 * i + 1) 0 (omega arith),
+      getD-take k f (4 * i + 2) 0 (omega arith),
+      getD-take k f (4 * i + 3) 0 (omega arith),
+    )
+
+-- by N and M alone
+abbrev tooLong : ℕ → ℕ → Loaded
+tooLong n m = cond (within 1 n mostSubs) (cond (within 0 m mostReaches) (refusedLoad 3 0) (refusedLoad 2 1)) (refusedLoad 2 0)
+
+abbrev pub mostBytes : ℕ
+mostBytes = 4 * (2 + wordCount * mostSubs + reachWordCount * mostReaches)
+
+long-is : (f : List ℕ) → mostBytes < length f → loadCall f ≡ tooLong (fileN f) (fileM f)
+unfolding loadCall loadCounts loadLength
+long-is f h = rw (le-ltb (length f) leastBytes (omega arith)) (go (within 1 (fileN f) mostSubs) (within 0 (fileM f) mostReaches) refl refl)
+  where
+    go : (t u : Bool) → within 1 (fileN f) mostSubs ≡ t → within 0 (fileM f) mostReaches ≡ u
+        → cond t (cond u (loadLength f) (refusedLoad 2 1)) (refusedLoad 2 0) ≡ cond t (cond u (refusedLoad 3 0) (refusedLoad 2 1)) (refusedLoad 2 0)
+    go false u e d = refl
+    go true false e d = refl
+    go true true e d =
+        let n = within-limits 1 (fileN f) mostSubs e in
+        let m = within-limits 0 (fileM f) mostReaches d in
+        rw (ne-eqb (length f) (4 * (2 + wordCount * fileN f + reachWordCount * fileM f)) (λ s. omega (arith, n, m, s)))
+
+pub start-loads : (k : ℕ) → mostBytes < k → (f : List ℕ) → loadCall (take k f) ≡ loadCall f
+start-loads k h f = go (decLe (length f) k)
+  where
+    go : Dec (length f ≤ k) → loadCall (take k f) ≡ loadCall f
+    go (yes l) = ap loadCall (take-all k f l)
+    go (no l) =
+        long-is (take k f) (omega (arith, length-take-le k f (omega arith)))
+        ∙ rw (word-start k f 0 (omega arith), word-start k f 1 (omega arith)) (sym (long-is f (omega arith)))
