@@ -10,6 +10,7 @@ use crate::limits;
 use crate::network;
 use crate::state::Basin;
 use common::weather::Weather;
+use curve::capacity;
 use forcing::list;
 use forcing::list::Forcing;
 use forcing::list::Line;
@@ -87,7 +88,8 @@ fn take(b: Basin, f: Forcing) -> Outcome
 {
     let before = b.subs;
     let weather = f.weather;
-    let stepped = step_subs(before, weather, b.n, b.m);
+    let roots = capacity::printed_roots();
+    let stepped = step_subs(&roots, before, weather, b.n, b.m);
     if stepped.number != 0 {
         return refuse(b, 9, 0);
     }
@@ -127,7 +129,13 @@ struct Subs {
 }
 
 // The steps of sub-basins 1..N.
-fn step_subs(before: [SubBasin; 32], weather: [Weather; 32], n: u64, m: u64) -> Subs
+fn step_subs(
+    roots: &[u32; 1024],
+    before: [SubBasin; 32],
+    weather: [Weather; 32],
+    n: u64,
+    m: u64,
+) -> Subs
     requires { ⌜ (n ≤ 32) × (m ≤ 31) × Weathers weather ⌝ }
     ensures { λ r. ⌜ SubsOf (subsOnly n m before) weather r ⌝ }
 {
@@ -141,7 +149,7 @@ fn step_subs(before: [SubBasin; 32], weather: [Weather; 32], n: u64, m: u64) -> 
         let at = i as usize;
         let s = subs[at];
         let w = weather[at];
-        let t = take_turn(s, w, m);
+        let t = take_turn(roots, s, w, m);
         if t.number != 0 {
             return Subs {
                 number: t.number,
@@ -182,7 +190,7 @@ struct Turn {
     held: u64,
 }
 
-fn take_turn(s: SubBasin, w: Weather, m: u64) -> Turn
+fn take_turn(roots: &[u32; 1024], s: SubBasin, w: Weather, m: u64) -> Turn
     requires { ⌜ (m ≤ 31) × WeatherIn w ⌝ }
     ensures { λ r. ⌜ TurnOf m s w r ⌝ }
 {
@@ -190,7 +198,7 @@ fn take_turn(s: SubBasin, w: Weather, m: u64) -> Turn
     if m < p.reach {
         return refused(s);
     }
-    let st = step::step(s, w);
+    let st = step::step_with(roots, s, w);
     if st.number != 0 {
         return refused(s);
     }

@@ -1,15 +1,20 @@
 -- Document 01, "The capacity curve", and its calls in "Who sent it".
 use mathlib.Core.Bool.{Bool, cond, _&&_}
+use mathlib.Core.List.{List}
 use Prim.Native.Nat.{ℕ, zero, suc, _+_, _-_, _*_, _/_, _%_, min}
 use lib.Dec.{leb, eqb}
 use Rattle.common.specs.Shares.{one}
 use Rattle.common.specs.Limits.{within}
-use Rattle.common.specs.Loops.{run, greatest}
+use Rattle.common.specs.Loops.{run, table, greatest}
 use Rattle.curve.specs.declared.capacity.Answer.{Answer}
 
 -- "greatest whole r with r × r ≤ t × 65,536"; such an r is at most t × 65,536 itself
 unfoldable pub root : ℕ → ℕ
 root t = greatest (λ r. leb (r * r) (t * one)) (t * one)
+
+-- Document 02, No. 1: "1,024 roots: entry k, for k 0..1,023, is the greatest whole r with r × r ≤ k × 65,536"
+unfoldable pub printedRoots : List ℕ
+printedRoots = table root 0 1024 1024
 
 -- "multiply by r and divide by 65,536"
 abbrev pub by : ℕ → ℕ → ℕ

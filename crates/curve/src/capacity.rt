@@ -3,8 +3,9 @@ ghost use mathlib.Core.Path.{_≡_};
 ghost use mathlib.Core.Bool.{not};
 ghost use Prim.Native.Nat.{_+_, _≤_, _<_};
 ghost use Rattle.common.specs.Shares.{one};
-ghost use Rattle.curve.specs.Capacity.{root, whole, part, power, held, ordinate};
+ghost use Rattle.curve.specs.Capacity.{root, printedRoots, whole, part, power, held, ordinate};
 ghost use Rattle.curve.specs.Capacity.{leastE, mostE, mostC, mostM, curveIn, value, refused, rootCall, powerCall, heldCall, ordinateCall};
+use crate::roots;
 use common::shares::ONE;
 
 // What a call of the curve answers: number and place are 0 where it is accepted.
@@ -26,7 +27,12 @@ const MOST_M: u64 = 2000000;
 // The turns of an ordinate search that try a guess.
 const GUESSES: u64 = 8;
 
-// The greatest r with r * r <= t * 65,536.
+// How a root is found: by Newton's steps, or led by a table.
+const NEWTON: bool = false;
+
+const TABLE: bool = true;
+
+// The greatest r with r * r <= t * 65,536, by Newton's steps.
 pub fn root(t: u64) -> Answer
     ensures { λ r. ⌜ r ≡ rootCall t ⌝ }
 {
@@ -36,24 +42,55 @@ pub fn root(t: u64) -> Answer
     accept(root_of(t))
 }
 
-// The share t raised to e / 16.
-pub fn power(t: u64, e: u64) -> Answer
-    ensures { λ r. ⌜ r ≡ powerCall t e ⌝ }
+// The same, by the printed table.
+pub fn root_by_table(t: u64) -> Answer
+    ensures { λ r. ⌜ r ≡ rootCall t ⌝ }
 {
     if ONE < t {
         return refuse();
     }
-    if e < LEAST_E {
-        return refuse();
-    }
-    if MOST_E < e {
-        return refuse();
-    }
-    accept(power_of(t, e))
+    accept(roots::root_of(t))
+}
+
+// The printed table, to be lent to the calls below. It is made anew by each call that takes none.
+pub fn printed_roots() -> [u32; 1024]
+    ensures { λ r. ⌜ r ≡ printedRoots ⌝ }
+{
+    roots::printed()
+}
+
+// The share t raised to e / 16, its roots by Newton's steps.
+pub fn power(t: u64, e: u64) -> Answer
+    ensures { λ r. ⌜ r ≡ powerCall t e ⌝ }
+{
+    power_by(NEWTON, t, e)
+}
+
+// The same, its roots by the printed table.
+pub fn power_by_table(t: u64, e: u64) -> Answer
+    ensures { λ r. ⌜ r ≡ powerCall t e ⌝ }
+{
+    power_by(TABLE, t, e)
 }
 
 // What is held below the ordinate a, by the curve of mean capacity c and greatest point capacity m.
 pub fn held(c: u64, m: u64, e: u64, a: u64) -> Answer
+    ensures { λ r. ⌜ r ≡ heldCall c m e a ⌝ }
+{
+    let roots = roots::printed();
+    held_with(&roots, c, m, e, a)
+}
+
+// The greatest ordinate below which at most w is held.
+pub fn ordinate(c: u64, m: u64, e: u64, w: u64) -> Answer
+    ensures { λ r. ⌜ r ≡ ordinateCall c m e w ⌝ }
+{
+    let roots = roots::printed();
+    ordinate_with(&roots, c, m, e, w)
+}
+
+// Both with a table that is lent. Whatever stands in it, they answer the same; by the printed one they do so soonest.
+pub fn held_with(roots: &[u32; 1024], c: u64, m: u64, e: u64, a: u64) -> Answer
     ensures { λ r. ⌜ r ≡ heldCall c m e a ⌝ }
 {
     if outside(c, m, e) {
@@ -62,11 +99,10 @@ pub fn held(c: u64, m: u64, e: u64, a: u64) -> Answer
     if m < a {
         return refuse();
     }
-    accept(held_of(c, m, e, a))
+    accept(held_of(roots, c, m, e, a))
 }
 
-// The greatest ordinate below which at most w is held.
-pub fn ordinate(c: u64, m: u64, e: u64, w: u64) -> Answer
+pub fn ordinate_with(roots: &[u32; 1024], c: u64, m: u64, e: u64, w: u64) -> Answer
     ensures { λ r. ⌜ r ≡ ordinateCall c m e w ⌝ }
 {
     if outside(c, m, e) {
@@ -75,7 +111,7 @@ pub fn ordinate(c: u64, m: u64, e: u64, w: u64) -> Answer
     if c < w {
         return refuse();
     }
-    accept(ordinate_of(c, m, e, w))
+    accept(ordinate_of(roots, c, m, e, w))
 }
 
 fn accept(v: u64) -> Answer
@@ -123,6 +159,22 @@ fn outside(c: u64, m: u64, e: u64) -> bool
     false
 }
 
+fn power_by(led: bool, t: u64, e: u64) -> Answer
+    ensures { λ r. ⌜ r ≡ powerCall t e ⌝ }
+{
+    if ONE < t {
+        return refuse();
+    }
+    if e < LEAST_E {
+        return refuse();
+    }
+    if MOST_E < e {
+        return refuse();
+    }
+    let roots = roots::printed();
+    accept(power_of(led, &roots, t, e))
+}
+
 // Newton's steps from above: the first guess is the mean of t and 65,536, and a guess whose square is too great goes down.
 fn root_of(t: u64) -> u64
     requires { ⌜ t ≤ one ⌝ }
@@ -134,6 +186,16 @@ fn root_of(t: u64) -> u64
         r = (r + n / r) / 2;
     }
     r
+}
+
+fn root_by(led: bool, roots: &[u32; 1024], t: u64) -> u64
+    requires { ⌜ t ≤ one ⌝ }
+    ensures { λ r. ⌜ (r ≡ root t) × (r ≤ one) ⌝ }
+{
+    if led {
+        return roots::root_with(roots, t);
+    }
+    root_of(t)
 }
 
 // 65,536, k times multiplied by t and divided by 65,536.
@@ -149,7 +211,7 @@ fn whole_of(t: u64, k: u64) -> u64
 }
 
 // A root is taken only where a lower bit of e needs it.
-fn power_of(t: u64, e: u64) -> u64
+fn power_of(led: bool, roots: &[u32; 1024], t: u64, e: u64) -> u64
     requires { ⌜ t ≤ one ⌝ }
     ensures { λ r. ⌜ (r ≡ power t e) × (r ≤ one) ⌝ }
 {
@@ -157,22 +219,22 @@ fn power_of(t: u64, e: u64) -> u64
     if e % 16 == 0 {
         return x;
     }
-    let r1 = root_of(t);
+    let r1 = root_by(led, roots, t);
     let x1 = part_of(e, 8, r1, x);
     if e % 8 == 0 {
         return x1;
     }
-    let r2 = root_of(r1);
+    let r2 = root_by(led, roots, r1);
     let x2 = part_of(e, 4, r2, x1);
     if e % 4 == 0 {
         return x2;
     }
-    let r3 = root_of(r2);
+    let r3 = root_by(led, roots, r2);
     let x3 = part_of(e, 2, r3, x2);
     if e % 2 == 0 {
         return x3;
     }
-    part_of(e, 1, root_of(r3), x3)
+    part_of(e, 1, root_by(led, roots, r3), x3)
 }
 
 // x times r over 65,536, where e mod 16 holds the bit b.
@@ -190,12 +252,12 @@ struct Point {
     held: u64,
 }
 
-fn point_at(c: u64, m: u64, e: u64, a: u64) -> Point
+fn point_at(roots: &[u32; 1024], c: u64, m: u64, e: u64, a: u64) -> Point
     requires { ⌜ (c ≤ mostC) × (0 < m) × (m ≤ mostM) × (a ≤ m) ⌝ }
     ensures { λ r. ⌜ (r .held ≡ held c m e a) × (r .share ≤ one) × (r .power ≤ one) ⌝ }
 {
     let t = (m - a) * ONE / m;
-    let p = power_of(t, e);
+    let p = power_of(TABLE, roots, t, e);
     Point {
         share: t,
         power: p,
@@ -203,17 +265,17 @@ fn point_at(c: u64, m: u64, e: u64, a: u64) -> Point
     }
 }
 
-fn held_of(c: u64, m: u64, e: u64, a: u64) -> u64
+fn held_of(roots: &[u32; 1024], c: u64, m: u64, e: u64, a: u64) -> u64
     requires { ⌜ (c ≤ mostC) × (0 < m) × (m ≤ mostM) × (a ≤ m) ⌝ }
     ensures { λ r. ⌜ r ≡ held c m e a ⌝ }
 {
-    let p = point_at(c, m, e, a);
+    let p = point_at(roots, c, m, e, a);
     p.held
 }
 
 // The interval from lo to hi is narrowed: lo holds at most w, hi holds more. Where it is tried is a guess for the first turns
 // and then its middle; any point between lo and hi will do.
-fn ordinate_of(c: u64, m: u64, e: u64, w: u64) -> u64
+fn ordinate_of(roots: &[u32; 1024], c: u64, m: u64, e: u64, w: u64) -> u64
     requires { ⌜ (c ≤ mostC) × (0 < m) × (m ≤ mostM) × (leastE ≤ e) × (e ≤ mostE) × (w ≤ c) ⌝ }
     ensures { λ r. ⌜ r ≡ ordinate c m e w ⌝ }
 {
@@ -231,7 +293,7 @@ fn ordinate_of(c: u64, m: u64, e: u64, w: u64) -> u64
             break lo;
         }
         let at = between(lo, hi, next, turns);
-        let p = point_at(c, m, e, at);
+        let p = point_at(roots, c, m, e, at);
         next = guess(m, e, need, p.share, p.power);
         turns = one_less(turns);
         if p.held <= w {

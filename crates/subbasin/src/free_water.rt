@@ -17,11 +17,11 @@ pub struct Parted {
 }
 
 // Free water g and pervious runoff r, under net rain pe: what is not kept is surface flow, and what is kept drains.
-pub fn drain(p: Parameters, g: u64, pe: u64, r: u64) -> Parted
+pub fn drain(roots: &[u32; 1024], p: Parameters, g: u64, pe: u64, r: u64) -> Parted
     requires { ⌜ FreeIn p × (g ≤ p .sm) × (r ≤ pe) × (pe ≤ 1000000) ⌝ }
     ensures { λ d. ⌜ d ≡ parted p g pe r ⌝ }
 {
-    let kept = keep_of(p, g, pe, r);
+    let kept = keep_of(roots, p, g, pe, r);
     let ri = p.ki * kept / ONE;
     let rg = p.kg * kept / ONE;
     Parted {
@@ -33,7 +33,7 @@ pub fn drain(p: Parameters, g: u64, pe: u64, r: u64) -> Parted
 }
 
 // What is kept of g + r; the producing area is r / pe of the sub-basin.
-fn keep_of(p: Parameters, g: u64, pe: u64, r: u64) -> u64
+fn keep_of(roots: &[u32; 1024], p: Parameters, g: u64, pe: u64, r: u64) -> u64
     requires { ⌜ FreeIn p × (g ≤ p .sm) × (r ≤ pe) × (pe ≤ 1000000) ⌝ }
     ensures { λ d. ⌜ d ≡ keep p g pe r ⌝ }
 {
@@ -41,6 +41,6 @@ fn keep_of(p: Parameters, g: u64, pe: u64, r: u64) -> u64
         return g;
     }
     let s = least(p.sm, g * pe / r);
-    let s2 = soil::raise(p.sm, p.sm * p.xn / 16, p.xn, s, pe);
+    let s2 = soil::raise(roots, p.sm, p.sm * p.xn / 16, p.xn, s, pe);
     least(g + r, s2 * r / pe)
 }

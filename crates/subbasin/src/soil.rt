@@ -85,7 +85,7 @@ fn fall(w: Layers, rain: u64, u: u64, el: u64, ed: u64) -> Evaporated
 }
 
 // Runoff from the impervious part, and from what the soil can't hold of the rest of the net rain.
-pub fn run_off(p: Parameters, w: Layers, pe: u64) -> Runoff
+pub fn run_off(roots: &[u32; 1024], p: Parameters, w: Layers, pe: u64) -> Runoff
     requires { ⌜ SoilIn p × LayersIn p w × (pe ≤ 1000000) ⌝ }
     ensures { λ r. ⌜ r ≡ runoff p w pe ⌝ }
 {
@@ -98,7 +98,7 @@ pub fn run_off(p: Parameters, w: Layers, pe: u64) -> Runoff
     }
     let rb = p.im * pe / ONE;
     let x = pe - rb;
-    let gained = gain_of(p, w.wu + w.wl + w.wd, pe, x);
+    let gained = gain_of(roots, p, w.wu + w.wl + w.wd, pe, x);
     Runoff {
         rb,
         r: x - gained,
@@ -107,22 +107,22 @@ pub fn run_off(p: Parameters, w: Layers, pe: u64) -> Runoff
 }
 
 // What of x the soil holds, where its water w lies along the capacity curve and net rain pe comes on top.
-fn gain_of(p: Parameters, w: u64, pe: u64, x: u64) -> u64
+fn gain_of(roots: &[u32; 1024], p: Parameters, w: u64, pe: u64, x: u64) -> u64
     requires { ⌜ SoilIn p × (w ≤ wm p) × (0 < pe) × (pe ≤ 1000000) ⌝ }
     ensures { λ r. ⌜ r ≡ gain p w pe x ⌝ }
 {
     let c = p.um + p.lm + p.dm;
     let m = most_point(p);
-    least(x, raise(c, m, p.bn, w, pe) - w)
+    least(x, raise(roots, c, m, p.bn, w, pe) - w)
 }
 
 // What the curve holds once pe has come on top of w.
-pub fn raise(c: u64, m: u64, e: u64, w: u64, pe: u64) -> u64
+pub fn raise(roots: &[u32; 1024], c: u64, m: u64, e: u64, w: u64, pe: u64) -> u64
     requires { ⌜ (curveIn c m e ≡ true) × (w ≤ c) × (pe ≤ 1000000) ⌝ }
     ensures { λ r. ⌜ r ≡ rise c m e w pe ⌝ }
 {
-    let from = capacity::ordinate(c, m, e, w);
-    let to = capacity::held(c, m, e, least(from.value + pe, m));
+    let from = capacity::ordinate_with(roots, c, m, e, w);
+    let to = capacity::held_with(roots, c, m, e, least(from.value + pe, m));
     to.value
 }
 

@@ -20,6 +20,7 @@ use common::shares::ONE;
 use common::weather::MOST_PAN;
 use common::weather::MOST_RAIN;
 use common::weather::Weather;
+use curve::capacity;
 use curve::store::Store;
 
 // What a step of a sub-basin gives: number and place are 0 where it is accepted. Depths in µm, q in m³.
@@ -42,6 +43,14 @@ pub struct Stepped {
 pub fn step(s: SubBasin, weather: Weather) -> Stepped
     ensures { λ r. ⌜ r ≡ subCall s weather ⌝ }
 {
+    let roots = capacity::printed_roots();
+    step_with(&roots, s, weather)
+}
+
+// The same with a table of roots that is lent (curve::capacity), for whoever takes many steps.
+pub fn step_with(roots: &[u32; 1024], s: SubBasin, weather: Weather) -> Stepped
+    ensures { λ r. ⌜ r ≡ subCall s weather ⌝ }
+{
     let p = s.fixed;
     if MOST_RAIN < weather.rain {
         return refuse(s);
@@ -50,7 +59,7 @@ pub fn step(s: SubBasin, weather: Weather) -> Stepped
         return refuse(s);
     }
     if record::allowed(s, p.reach) {
-        return run(s, weather);
+        return run(roots, s, weather);
     }
     refuse(s)
 }
@@ -75,7 +84,7 @@ fn refuse(s: SubBasin) -> Stepped
 }
 
 // The stages in order: evapotranspiration, runoff, free water, then the way to the outlet.
-fn run(s: SubBasin, weather: Weather) -> Stepped
+fn run(roots: &[u32; 1024], s: SubBasin, weather: Weather) -> Stepped
     requires { ⌜ (recordIn (s .fixed .reach) s ≡ true) × WeatherIn weather ⌝ }
     ensures { λ r. ⌜ r ≡ stepped s weather ⌝ }
 {
@@ -88,8 +97,8 @@ fn run(s: SubBasin, weather: Weather) -> Stepped
     };
     let ev = soil::evaporate(p, layers, weather.rain, p.k * weather.pan / ONE);
     let left = ev.layers;
-    let ro = soil::run_off(p, left, ev.pe);
-    let pw = free_water::drain(p, w.g, ev.pe, ro.r);
+    let ro = soil::run_off(roots, p, left, ev.pe);
+    let pw = free_water::drain(roots, p, w.g, ev.pe, ro.r);
     route(s, ev, ro, pw)
 }
 

@@ -1,6 +1,6 @@
 -- The root: it is the greatest, it is unique, it grows with t; and Newton's step towards it from above. Assumes nothing.
 use mathlib.Core.Path.{_≡_}
-use Prim.Native.Nat.{ℕ, _+_, _-_, _*_, _/_, _≤_, _<_}
+use Prim.Native.Nat.{ℕ, zero, suc, _+_, _-_, _*_, _/_, _≤_, _<_}
 use native.Mathlib.Nat.{mul-le-mul, mul-le-mul-left, lt-mul-div-succ, div-lt-iff-lt-mul}
 use native.Mathlib.Decide.{decLe}
 use native.Mathlib.Omega.{arith}
@@ -40,6 +40,14 @@ root-mono {s} {t} h =
 
 pub root-one : root one ≡ one
 root-one = root-unique one one (omega arith) (omega arith)
+
+pub root-le-one : {t : ℕ} → t ≤ one → root t ≤ one
+root-le-one h = omega (arith, root-mono h, root-one)
+
+-- what has a number below its square is not 0
+pub square-positive : (n r : ℕ) → n < r * r → 0 < r
+square-positive n zero h = omega arith
+square-positive n (suc r) h = omega arith
 
 -- the arithmetic mean is at least the geometric one
 pub mean : (x y : ℕ) → 4 * (x * y) ≤ (x + y) * (x + y)

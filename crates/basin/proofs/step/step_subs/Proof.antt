@@ -9,10 +9,10 @@ use Rattle.basin.proofs.step.step_subs.Statement.{statement}
 use Rattle.basin.proofs.step.step_subs.Tie as tie
 
 abbrev Inv-loop : tie.InvT-loop
-Inv-loop n m weather subs₀ sent₀ rain₀ loss₀ held₀ i₀ subs sent rain loss held i = Stepping (subsOnly n m subs₀) weather i subs sent rain loss held
+Inv-loop roots n m weather subs₀ sent₀ rain₀ loss₀ held₀ i₀ subs sent rain loss held i = Stepping (subsOnly n m subs₀) weather i subs sent rain loss held
 
 abbrev μ-loop : tie.MeasureT-loop
-μ-loop n m weather subs₀ sent₀ rain₀ loss₀ held₀ i₀ subs sent rain loss held i = n - i
+μ-loop roots n m weather subs₀ sent₀ rain₀ loss₀ held₀ i₀ subs sent rain loss held i = n - i
 
 -- what is known of a turn that is not refused
 module _ (c : tie.Else1 Inv-loop μ-loop) where

@@ -19,10 +19,10 @@ narrowed c m e w lo hi z i h =
     sym (ordinate-is c m e w lo z (omega arith) (i .2) (λ _. subst (λ (a : ℕ). w < held c m e a) next (i .3)))
 
 abbrev Inv-loop : tie.InvT-loop
-Inv-loop c m e w need lo₀ hi₀ next₀ turns₀ lo hi next turns = (lo < hi) × (hi ≤ m) × (held c m e lo ≤ w) × (w < held c m e hi)
+Inv-loop roots c m e w need lo₀ hi₀ next₀ turns₀ lo hi next turns = (lo < hi) × (hi ≤ m) × (held c m e lo ≤ w) × (w < held c m e hi)
 
 abbrev μ-loop : tie.MeasureT-loop
-μ-loop c m e w need lo₀ hi₀ next₀ turns₀ lo hi next turns = hi - lo
+μ-loop roots c m e w need lo₀ hi₀ next₀ turns₀ lo hi next turns = hi - lo
 
 returns : tie.Need-returns Inv-loop μ-loop
 returns c = sym (ap (ordinate _ _ _) (c .if1 .taken) ∙ ordinate-full _ _ _ (c .before .pre .1) (c .before .pre .3))

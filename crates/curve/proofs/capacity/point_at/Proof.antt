@@ -19,15 +19,15 @@ power-of-requires : tie.Need-power-of-requires
 unfolding shareAbove
 power-of-requires c κs = share-above-le-one (c .args .m) (c .args .a) (c .pre .1)
 
-mul-t7 : tie.Need-mul-t7
-mul-t7 c = omega (arith, scaled (c .before .args .c) (c .power-of .result) (c .before .pre .0) (c .power-of .ensures .1))
+mul-t8 : tie.Need-mul-t8
+mul-t8 c = omega (arith, scaled (c .before .args .c) (c .power-of .result) (c .before .pre .0) (c .power-of .ensures .1))
 
-sub-t9 : tie.Need-sub-t9
-sub-t9 c = part-le (c .before .args .c) (c .power-of .result) (c .power-of .ensures .1)
+sub-t10 : tie.Need-sub-t10
+sub-t10 c = part-le (c .before .args .c) (c .power-of .result) (c .power-of .ensures .1)
 
 returns : tie.Need-returns
 unfolding held shareAbove
 returns c = (rw (c .power-of .ensures .0), share-above-le-one (c .before .args .m) (c .before .args .a) (c .before .pre .1), c .power-of .ensures .1)
 
 pub point-at-spec : {M : Type 1} → statement M
-point-at-spec = tie.close (tie.spec (λ c. search needs) (λ c. search needs) (λ c. search needs) power-of-requires mul-t7 sub-t9 returns)
+point-at-spec = tie.close (tie.spec (λ c. search needs) (λ c. search needs) (λ c. search needs) power-of-requires mul-t8 sub-t10 returns)

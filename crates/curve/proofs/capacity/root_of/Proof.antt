@@ -1,12 +1,12 @@
 -- `curve::capacity::root_of` meets its contract. The invariant of its loop: the square of r + 1 is above n, which with the
 -- test that fails at the end makes r the root. The measure is r, which each of Newton's steps brings down. Assumes nothing.
 use mathlib.Core.Path.{_≡_, refl, sym, subst}
-use Prim.Native.Nat.{ℕ, zero, suc, _+_, _*_, _/_, _≤_, _<_}
+use Prim.Native.Nat.{ℕ, _+_, _*_, _/_, _≤_, _<_}
 use native.Mathlib.Nat.{div-le-self, mul-div-cancel}
 use native.Mathlib.Omega.{arith}
 use Rattle.common.specs.Shares.{one}
 use Rattle.curve.proofs.capacity.PowerLaws.{shares-le}
-use Rattle.curve.proofs.capacity.RootLaws.{root-unique, newton-above, newton-less}
+use Rattle.curve.proofs.capacity.RootLaws.{root-unique, square-positive, newton-above, newton-less}
 use Rattle.curve.proofs.capacity.root_of.Statement.{statement}
 use Rattle.curve.proofs.capacity.root_of.Tie as tie
 
@@ -22,10 +22,6 @@ first t =
     subst (λ (q : ℕ). t * one < ((one + q) / 2 + 1) * ((one + q) / 2 + 1)) (mul-div-cancel t {n = one} (omega arith))
     (newton-above (t * one) one (omega arith))
 
-positive : (n r : ℕ) → n < r * r → 0 < r
-positive n zero h = omega arith
-positive n (suc r) h = omega arith
-
 loop-holds : tie.Need-loop-holds Inv-loop μ-loop
 loop-holds c = (refl, first (c .args .t), omega arith)
 
@@ -33,17 +29,17 @@ mul-loop : tie.Need-mul-loop Inv-loop μ-loop
 mul-loop c = omega (arith, shares-le (c .loop .inv .2) (c .loop .inv .2))
 
 div-r : tie.Need-div-r Inv-loop μ-loop
-div-r c = positive _ _ (c .loop-test .taken)
+div-r c = square-positive _ _ (c .loop-test .taken)
 
 add-r-2 : tie.Need-add-r-2 Inv-loop μ-loop
 add-r-2 c = omega (arith, div-le-self (c .before .before .args .t * one) (c .before .loop .r))
 
 loop-less : tie.Need-loop-less Inv-loop μ-loop
-loop-less c = newton-less _ _ (positive _ _ (c .loop-test .taken)) (c .loop-test .taken)
+loop-less c = newton-less _ _ (square-positive _ _ (c .loop-test .taken)) (c .loop-test .taken)
 
 loop-again : tie.Need-loop-again Inv-loop μ-loop
 loop-again c =
-    let z = positive _ _ (c .loop-test .taken) in
+    let z = square-positive _ _ (c .loop-test .taken) in
     (c .before .loop .inv .0, newton-above _ _ z, omega (arith, newton-less _ _ z (c .loop-test .taken)))
 
 returns : tie.Need-returns Inv-loop μ-loop

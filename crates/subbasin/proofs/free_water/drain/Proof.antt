@@ -37,20 +37,20 @@ mul-ri c = omega (arith, ki-fits _ _ _ _ (c .before .before .pre .0) (c .before 
 mul-rg : tie.Need-mul-rg
 mul-rg c = omega (arith, kg-fits _ _ _ _ (c .before .before .before .pre .0) (c .before .before .before .pre .1) (c .before .before .before .pre .2) (c .before .before .keep-of .ensures))
 
-add-t8 : tie.Need-add-t8
-add-t8 c = omega (arith, kept-in _ _ _ _ (c .before .before .before .pre .0) (c .before .before .before .pre .1) (c .before .before .before .pre .2) (c .before .before .keep-of .ensures), c .before .before .before .pre .0 .sm-most)
-
-sub-t9 : tie.Need-sub-t9
-sub-t9 c = omega (arith, kept-in _ _ _ _ (c .before .before .before .pre .0) (c .before .before .before .pre .1) (c .before .before .before .pre .2) (c .before .before .keep-of .ensures))
+add-t9 : tie.Need-add-t9
+add-t9 c = omega (arith, kept-in _ _ _ _ (c .before .before .before .pre .0) (c .before .before .before .pre .1) (c .before .before .before .pre .2) (c .before .before .keep-of .ensures), c .before .before .before .pre .0 .sm-most)
 
 sub-t10 : tie.Need-sub-t10
-sub-t10 c = omega (arith, drains-most _ (c .before .before .keep-of .result) (c .before .before .before .pre .0))
+sub-t10 c = omega (arith, kept-in _ _ _ _ (c .before .before .before .pre .0) (c .before .before .before .pre .1) (c .before .before .before .pre .2) (c .before .before .keep-of .ensures))
 
 sub-t11 : tie.Need-sub-t11
 sub-t11 c = omega (arith, drains-most _ (c .before .before .keep-of .result) (c .before .before .before .pre .0))
+
+sub-t12 : tie.Need-sub-t12
+sub-t12 c = omega (arith, drains-most _ (c .before .before .keep-of .result) (c .before .before .before .pre .0))
 
 returns : tie.Need-returns
 returns c = parts-of _ _ _ _ (c .before .before .keep-of .ensures)
 
 pub drain-spec : {M : Type 1} → statement M
-drain-spec = tie.close (tie.spec (λ c κs. search needs) mul-ri mul-rg add-t8 sub-t9 sub-t10 sub-t11 returns)
+drain-spec = tie.close (tie.spec (λ c κs. search needs) mul-ri mul-rg add-t9 sub-t10 sub-t11 sub-t12 returns)

@@ -45,8 +45,8 @@ sub-x c = impervious-le _ _ (c .before .before .pre .0)
 gain-of-requires : tie.Need-gain-of-requires
 gain-of-requires c κs = (c .before .before .before .before .pre .0, omega (arith, c .before .before .before .before .pre .1), omega arith, c .before .before .before .before .pre .2)
 
-sub-t8 : tie.Need-sub-t8
-sub-t8 c = gain-of-x _ _ _ (c .before .before .before .before .before .pre .1) (c .gain-of .ensures) .from-x
+sub-t9 : tie.Need-sub-t9
+sub-t9 c = gain-of-x _ _ _ (c .before .before .before .before .before .pre .1) (c .gain-of .ensures) .from-x
 
 fill-requires : tie.Need-fill-requires
 fill-requires c κs = (c .before .before .before .before .before .pre .1, gain-of-x _ _ _ (c .before .before .before .before .before .pre .1) (c .gain-of .ensures) .into-soil, omega (arith, c .before .before .before .before .before .pre .0))
@@ -56,4 +56,4 @@ returns-2 c = some-runoff _ _ _ (c .before .before .before .before .before .befo
 
 pub run-off-spec : {M : Type 1} → statement M
 run-off-spec =
-    tie.close (tie.spec returns mul-rb sub-x (λ c. search needs) (λ c. search needs) gain-of-requires sub-t8 fill-requires returns-2)
+    tie.close (tie.spec returns mul-rb sub-x (λ c. search needs) (λ c. search needs) gain-of-requires sub-t9 fill-requires returns-2)

@@ -1,4 +1,4 @@
--- `subbasin::step::step` meets its contract. Assumes nothing.
+-- `subbasin::step::step_with` meets its contract. Assumes nothing.
 use mathlib.Core.Path.{_≡_, sym, _∙_}
 use mathlib.Core.Bool.{false, true≢false}
 use native.Mathlib.Omega.{arith}
@@ -7,8 +7,8 @@ use Rattle.subbasin.specs.Record.{recordIn}
 use Rattle.subbasin.proofs.record.RecordLaws.{RecordIn, record-in, record-limits}
 use Rattle.subbasin.proofs.step.CallLaws.{step-accepts, step-refuses}
 use borrow.Author.Needs.{needs}
-use Rattle.subbasin.proofs.step.step.Statement.{statement}
-use Rattle.subbasin.proofs.step.step.Tie as tie
+use Rattle.subbasin.proofs.step.step_with.Statement.{statement}
+use Rattle.subbasin.proofs.step.step_with.Tie as tie
 
 outside : (s : SubBasin) → recordIn (s .fixed .reach) s ≡ false → RecordIn (s .fixed .reach) s → ⊥
 outside s n h = true≢false (sym (record-in (s .fixed .reach) s h) ∙ n)
@@ -35,8 +35,8 @@ returns-3 c =
 returns-4 : tie.Need-returns-4
 returns-4 c = c .refuse3 .ensures ∙ sym (step-refuses _ _ (λ h. outside _ (sym (c .before .before .allowed .ensures) ∙ c .before .if3 .left) (h .in-record)))
 
-pub step-spec : {M : Type 1} → statement M
-step-spec =
+pub step-with-spec : {M : Type 1} → statement M
+step-with-spec =
     tie.close
     (tie.spec (λ c κs. search needs) returns (λ c κs. search needs) returns-2 (λ c κs. search needs) run-requires returns-3
     (λ c κs. search needs) returns-4)

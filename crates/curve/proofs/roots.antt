@@ -1,0 +1,2 @@
+-- Laws about the printed table and where it leads.
+pub mod LeadLaws
