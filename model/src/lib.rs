@@ -12,6 +12,7 @@ pub mod forcing;
 pub mod program;
 pub mod random;
 pub mod record;
+pub mod roots;
 pub mod sample;
 pub mod store;
 pub mod subbasin;

@@ -1,6 +1,6 @@
 //! The second model as a program: `model` alone says what it does.
 
-use model::{bench, compare, expect, files, program, random, sample};
+use model::{bench, compare, expect, files, program, random, roots, sample};
 use std::io::{self, BufWriter, Write};
 use std::process::ExitCode;
 
@@ -11,6 +11,7 @@ const USAGE: &str = "usage:
   model sample FOLDER                makes the sample's files
   model make SEED FOLDER             makes a random case
   model compare ACCOUNT FIRST LAST   holds a built program to the model, on cases FIRST to LAST
+  model roots                        the printed table of roots, as a source file
   model bench ACCOUNT                times a built program and the model
   model bench-files FOLDER YEARS SUBBASINS
   model program-cases FOLDER         makes the files of program_cases
@@ -44,6 +45,7 @@ fn obey(words: &[&str], out: &mut impl Write) -> io::Result<u8> {
         ["compare", account, first, last] => {
             compare::compare(account.as_ref(), number(first)?, number(last)?, out)
         }
+        ["roots"] => roots::print(out),
         ["bench", account] => bench::bench(account.as_ref(), out),
         ["bench-files", folder, years, sub_basins] => {
             bench::files(number(years)?, number(sub_basins)?).write(folder.as_ref())

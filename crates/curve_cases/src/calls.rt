@@ -1,4 +1,4 @@
-// The public calls of `curve`, each on a row of four numbers: root takes the first, Power the first two, the others all.
+// The public calls of `curve`, each on a row of four numbers: a root takes the first, a Power the first two, the others all.
 use curve::capacity;
 use curve::capacity::Answer;
 use curve::store::Store;
@@ -7,7 +7,9 @@ use testing::lines;
 
 pub enum Call {
     Root,
+    RootByTable,
     Power,
+    PowerByTable,
     Held,
     Ordinate,
     Store,
@@ -47,7 +49,9 @@ pub fn fold(h: u64, call: Call, v: [u64; 4]) -> u64 {
 pub fn name(call: Call) {
     match call {
         Call::Root => lines::word(b"root"),
+        Call::RootByTable => lines::word(b"root_by_table"),
         Call::Power => lines::word(b"power"),
+        Call::PowerByTable => lines::word(b"power_by_table"),
         Call::Held => lines::word(b"held"),
         Call::Ordinate => lines::word(b"ordinate"),
         Call::Store => lines::word(b"store"),
@@ -56,8 +60,8 @@ pub fn name(call: Call) {
 
 fn arguments(call: Call, v: [u64; 4]) {
     match call {
-        Call::Root => lines::number(v[0]),
-        Call::Power => {
+        Call::Root | Call::RootByTable => lines::number(v[0]),
+        Call::Power | Call::PowerByTable => {
             lines::number(v[0]);
             lines::number(v[1]);
         }
@@ -73,7 +77,9 @@ fn answered(call: Call, v: [u64; 4]) -> [u64; 3] {
 fn answer(call: Call, v: [u64; 4]) -> Answer {
     match call {
         Call::Root => capacity::root(v[0]),
+        Call::RootByTable => capacity::root_by_table(v[0]),
         Call::Power => capacity::power(v[0], v[1]),
+        Call::PowerByTable => capacity::power_by_table(v[0], v[1]),
         Call::Held => capacity::held(v[0], v[1], v[2], v[3]),
         _ => capacity::ordinate(v[0], v[1], v[2], v[3]),
     }

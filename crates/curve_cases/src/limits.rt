@@ -16,8 +16,8 @@ fn case(call: Call, i: u64) -> [u64; 4] {
     let m = end(2000000, i / 4);
     let e = exponent(i / 16);
     match call {
-        Call::Root => [share, 0, 0, 0],
-        Call::Power => [share, exponent(i / 4), 0, 0],
+        Call::Root | Call::RootByTable => [share, 0, 0, 0],
+        Call::Power | Call::PowerByTable => [share, exponent(i / 4), 0, 0],
         Call::Held => [c, m, e, within(m, i / 64)],
         Call::Ordinate => [c, m, e, within(c, i / 64)],
         Call::Store => [
@@ -65,8 +65,11 @@ const FAR: u64 = 18446744073709551615;
 // Each argument in turn at the greatest u64.
 pub fn far() {
     calls::print(Call::Root, [FAR, 0, 0, 0]);
+    calls::print(Call::RootByTable, [FAR, 0, 0, 0]);
     calls::print(Call::Power, [FAR, 16, 0, 0]);
     calls::print(Call::Power, [1, FAR, 0, 0]);
+    calls::print(Call::PowerByTable, [FAR, 16, 0, 0]);
+    calls::print(Call::PowerByTable, [1, FAR, 0, 0]);
     far_of_four(Call::Held, 16);
     far_of_four(Call::Ordinate, 16);
     far_of_four(Call::Store, 1);

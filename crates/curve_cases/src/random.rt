@@ -34,7 +34,7 @@ fn turn(call: Call, s: Drawn, shown: bool) -> Drawn {
     }
 }
 
-fn eight(x: u64) -> [u64; 8] {
+pub fn eight(x: u64) -> [u64; 8] {
     let x1 = next(x);
     let x2 = next(x1);
     let x3 = next(x2);
@@ -48,21 +48,21 @@ fn eight(x: u64) -> [u64; 8] {
 // The last of the draws that a call uses.
 fn last(call: Call, x: [u64; 8]) -> u64 {
     match call {
-        Call::Root => x[0],
-        Call::Power => x[1],
+        Call::Root | Call::RootByTable => x[0],
+        Call::Power | Call::PowerByTable => x[1],
         Call::Held | Call::Ordinate => x[5],
         Call::Store => x[7],
     }
 }
 
-fn arguments(call: Call, x: [u64; 8]) -> [u64; 4] {
+pub fn arguments(call: Call, x: [u64; 8]) -> [u64; 4] {
     let t = x[0] % 66000;
     let c = sized(x[0], x[1], x[1] % 500002);
     let m = sized(x[2], x[3], x[3] % 2000002);
     let e = 15 + x[4] % 35;
     match call {
-        Call::Root => [t, 0, 0, 0],
-        Call::Power => [t, 15 + x[1] % 35, 0, 0],
+        Call::Root | Call::RootByTable => [t, 0, 0, 0],
+        Call::Power | Call::PowerByTable => [t, 15 + x[1] % 35, 0, 0],
         Call::Held => [c, m, e, x[5] % (m + 2)],
         Call::Ordinate => [c, m, e, x[5] % (c + 2)],
         Call::Store => [

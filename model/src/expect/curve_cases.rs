@@ -9,19 +9,23 @@ use std::io::{self, Write};
 #[derive(Clone, Copy)]
 enum Call {
     Root([u64; 1]),
+    RootByTable([u64; 1]),
     Power([u64; 2]),
+    PowerByTable([u64; 2]),
     Held([u64; 4]),
     Ordinate([u64; 4]),
     Store([u64; 4]),
 }
 
-use Call::{Held, Ordinate, Power, Root};
+use Call::{Held, Ordinate, Power, PowerByTable, Root, RootByTable};
 
 impl Call {
     fn name(&self) -> &'static str {
         match self {
             Root(_) => "root",
+            RootByTable(_) => "root_by_table",
             Power(_) => "power",
+            PowerByTable(_) => "power_by_table",
             Held(_) => "held",
             Ordinate(_) => "ordinate",
             Call::Store(_) => "store",
@@ -30,8 +34,8 @@ impl Call {
 
     fn arguments(&self) -> &[u64] {
         match self {
-            Root(arguments) => arguments,
-            Power(arguments) => arguments,
+            Root(arguments) | RootByTable(arguments) => arguments,
+            Power(arguments) | PowerByTable(arguments) => arguments,
             Held(arguments) | Ordinate(arguments) | Call::Store(arguments) => arguments,
         }
     }
@@ -39,8 +43,8 @@ impl Call {
     /// Every number of the answer.
     fn answer(&self) -> Vec<u64> {
         let answer = match *self {
-            Root([t]) => curve::root(t),
-            Power([t, e]) => curve::power(t, e),
+            Root([t]) | RootByTable([t]) => curve::root(t),
+            Power([t, e]) | PowerByTable([t, e]) => curve::power(t, e),
             Held([c, m, e, a]) => curve::held(c, m, e, a),
             Ordinate([c, m, e, w]) => curve::ordinate(c, m, e, w),
             Call::Store([a, g, content, inflow]) => {
@@ -65,15 +69,26 @@ pub fn print(out: &mut impl Write) -> io::Result<()> {
     for call in examples() {
         call.print(out)?;
     }
-    writeln!(out, "every root {}", every(|t| Root([t])))?;
+    writeln!(out, "every root 0 {}", every(|t| Root([t])))?;
+    writeln!(out, "every root_by_table 0 {}", every(|t| RootByTable([t])))?;
     for e in [15, 16, 17, 24, 31, 32, 33, 40, 47, 48, 49] {
         writeln!(out, "every power {e} {}", every(|t| Power([t, e])))?;
+        if e == 31 {
+            writeln!(out, "every power_by_table {e} {}", every(|t| PowerByTable([t, e])))?;
+        }
+    }
+    for e in 15..=49 {
+        writeln!(out, "spread power {e} {}", spread(|t| Power([t, e])))?;
+        writeln!(out, "spread power_by_table {e} {}", spread(|t| PowerByTable([t, e])))?;
     }
     for call in limits().into_iter().chain(far()) {
         call.print(out)?;
     }
     for drawn in [drawn_root, drawn_power, drawn_held, drawn_ordinate, drawn_store] {
         series(drawn, out)?;
+    }
+    for table in ["printed", "off by one", "zeros", "ones", "8191", "4294967295"] {
+        writeln!(out, "lent {table} {}", lent())?;
     }
     Ok(())
 }
@@ -102,6 +117,15 @@ fn every(call: impl Fn(u64) -> Call) -> u64 {
     h.0
 }
 
+/// The checksum over t from 65,536 down by 127.
+fn spread(call: impl Fn(u64) -> Call) -> u64 {
+    let mut h = Checksum::default();
+    for t in (0..=65_536).rev().step_by(127) {
+        h.fold(&call(t).answer());
+    }
+    h.0
+}
+
 const SHARES: [u64; 4] = [0, 1, 65_536, 65_537];
 const EXPONENTS: [u64; 4] = [15, 16, 48, 49];
 const MEAN_CAPACITIES: [u64; 4] = [0, 1, 500_000, 500_001];
@@ -112,8 +136,12 @@ const INFLOWS: [u64; 4] = [0, 1, 1 << 62, (1 << 62) + 1];
 /// Both ends of every limit and one beyond, each with each; the first argument changes fastest.
 fn limits() -> Vec<Call> {
     let mut calls: Vec<Call> = SHARES.map(|t| Root([t])).into();
+    calls.extend(SHARES.map(|t| RootByTable([t])));
     for e in EXPONENTS {
         calls.extend(SHARES.map(|t| Power([t, e])));
+    }
+    for e in EXPONENTS {
+        calls.extend(SHARES.map(|t| PowerByTable([t, e])));
     }
     for k in 0..3 {
         for e in EXPONENTS {
@@ -141,7 +169,9 @@ fn limits() -> Vec<Call> {
 
 /// Each argument in turn at the greatest u64.
 fn far() -> Vec<Call> {
-    let mut calls = vec![Root([u64::MAX]), Power([u64::MAX, 16]), Power([1, u64::MAX])];
+    let mut calls = vec![Root([u64::MAX]), RootByTable([u64::MAX])];
+    calls.extend([Power([u64::MAX, 16]), Power([1, u64::MAX])]);
+    calls.extend([PowerByTable([u64::MAX, 16]), PowerByTable([1, u64::MAX])]);
     let valid = [1, 1, 16, 1];
     calls.extend((0..4).map(|i| Held(with(valid, i))));
     calls.extend((0..4).map(|i| Ordinate(with(valid, i))));
@@ -168,6 +198,20 @@ fn series(drawn: fn(&mut Draw) -> Call, out: &mut impl Write) -> io::Result<()> 
         name = call.name();
     }
     writeln!(out, "series {name} {}", h.0)
+}
+
+/// The checksum of 10,000 random Helds and Ordinates of the same draws, whatever table is lent.
+fn lent() -> u64 {
+    let mut draw = Draw(1);
+    let mut h = Checksum::default();
+    for _ in 0..10_000 {
+        let [c, m, e] = drawn_curve(&mut draw);
+        let last = draw.next();
+        let held = Held([c, m, e, last % (m + 2)]);
+        let ordinate = Ordinate([c, m, e, last % (c + 2)]);
+        h.fold(&[held.answer(), ordinate.answer()].concat());
+    }
+    h.0
 }
 
 fn drawn_root(draw: &mut Draw) -> Call {
