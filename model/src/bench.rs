@@ -1,9 +1,12 @@
 //! The benchmark: the built program against the model, on the same files.
 
 use crate::chance::Chance;
+use crate::curve;
+use crate::expect::root_speed::{chain, ROUND};
 use crate::files::{line, Files, LineWords, MEASURED};
 use crate::record::{range, WORDS};
 use std::fs;
+use std::hint::black_box;
 use std::io::{self, Write};
 use std::path::Path;
 use std::process::{Command, Stdio};
@@ -64,7 +67,9 @@ pub fn bench(account: &Path, out: &mut impl Write) -> io::Result<()> {
         files(years, sub_basins).write(&folder)?;
         let mut ours = Command::new(&account);
         let mut its = Command::new(&model);
-        let [ours, its] = best([ours.current_dir(&folder), its.arg("run").arg(&folder)])?;
+        ours.current_dir(&folder);
+        its.arg("run").arg(&folder);
+        let [ours, its] = best([ours, its])?;
         let ratio = ours / its;
         writeln!(out, "{years:5} {sub_basins:11} {ours:9.1} ms {its:9.1} ms {ratio:7.2}")?;
         out.flush()?;
@@ -72,9 +77,42 @@ pub fn bench(account: &Path, out: &mut impl Write) -> io::Result<()> {
     fs::remove_dir_all(&folder)
 }
 
-/// The best time of each, in milliseconds. They take turns, so that both meet the machine alike.
-fn best(mut programs: [&mut Command; 2]) -> io::Result<[f64; 2]> {
-    let mut best = [f64::INFINITY; 2];
+/// A root alone, in nanoseconds: by Newton's steps, by the printed table, lent and made anew for each, and the model's
+/// own. What the chain takes without a root is taken off.
+pub fn roots(root_speed: &Path, out: &mut impl Write) -> io::Result<()> {
+    let ways = ["idle", "newton", "lent", "made"];
+    let [idle, newton, lent, made] = best(ways.map(|way| {
+        let mut chain = Command::new(root_speed);
+        chain.arg(way);
+        chain
+    }))?;
+    let [bare, own] = [best_chain(|t| t), best_chain(curve::root_of)];
+    let each = |all: f64| 1_000_000.0 * all / (100 * ROUND) as f64;
+    for (name, time) in [
+        ("Newton's steps", newton - idle),
+        ("the printed table, lent", lent - idle),
+        ("the printed table, made anew", made - idle),
+        ("the model's", own - bare),
+    ] {
+        writeln!(out, "{:6.1} ns   {name}", each(time))?;
+    }
+    Ok(())
+}
+
+/// The best time of a chain of a hundred rounds, in milliseconds.
+fn best_chain(root: impl Fn(u64) -> u64) -> f64 {
+    let mut best = f64::INFINITY;
+    for _ in 0..RUNS {
+        let start = Instant::now();
+        black_box(chain(|t| root(black_box(t)), black_box(100 * ROUND)));
+        best = best.min(1_000.0 * start.elapsed().as_secs_f64());
+    }
+    best
+}
+
+/// The best time of each, in milliseconds. They take turns, so that all meet the machine alike.
+fn best<const N: usize>(mut programs: [Command; N]) -> io::Result<[f64; N]> {
+    let mut best = [f64::INFINITY; N];
     for _ in 0..RUNS {
         for (program, best) in programs.iter_mut().zip(&mut best) {
             let start = Instant::now();

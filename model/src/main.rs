@@ -13,6 +13,7 @@ const USAGE: &str = "usage:
   model compare ACCOUNT FIRST LAST   holds a built program to the model, on cases FIRST to LAST
   model roots                        the printed table of roots, as a source file
   model bench ACCOUNT                times a built program and the model
+  model bench-roots ROOT_SPEED       times a root alone, by each way
   model bench-files FOLDER YEARS SUBBASINS
   model program-cases FOLDER         makes the files of program_cases
   model expected                     names the test programs
@@ -47,6 +48,7 @@ fn obey(words: &[&str], out: &mut impl Write) -> io::Result<u8> {
         }
         ["roots"] => roots::print(out),
         ["bench", account] => bench::bench(account.as_ref(), out),
+        ["bench-roots", root_speed] => bench::roots(root_speed.as_ref(), out),
         ["bench-files", folder, years, sub_basins] => {
             bench::files(number(years)?, number(sub_basins)?).write(folder.as_ref())
         }

@@ -52,7 +52,7 @@ pub fn root_by_table(t: u64) -> Answer
     accept(roots::root_of(t))
 }
 
-// The printed table, to be lent to the calls below. It is made anew by each call that takes none.
+// The printed table, to be lent. A call that is lent none makes it anew.
 pub fn printed_roots() -> [u32; 1024]
     ensures { λ r. ⌜ r ≡ printedRoots ⌝ }
 {
@@ -89,7 +89,16 @@ pub fn ordinate(c: u64, m: u64, e: u64, w: u64) -> Answer
     ordinate_with(&roots, c, m, e, w)
 }
 
-// Both with a table that is lent. Whatever stands in it, they answer the same; by the printed one they do so soonest.
+// Root, Held and Ordinate with a table that is lent. Whatever stands in it, they answer the same; by the printed one they do so soonest.
+pub fn root_with(roots: &[u32; 1024], t: u64) -> Answer
+    ensures { λ r. ⌜ r ≡ rootCall t ⌝ }
+{
+    if ONE < t {
+        return refuse();
+    }
+    accept(roots::root_with(roots, t))
+}
+
 pub fn held_with(roots: &[u32; 1024], c: u64, m: u64, e: u64, a: u64) -> Answer
     ensures { λ r. ⌜ r ≡ heldCall c m e a ⌝ }
 {

@@ -1,4 +1,5 @@
-// Held and Ordinate with tables of roots that mislead: they answer as they do by the printed one. A checksum of a random series for each.
+// Root, Held and Ordinate with tables of roots that mislead: they answer as they do by the printed one. For each table a checksum of every
+// root and one of a random series.
 use crate::calls::Call;
 use crate::random;
 use curve::capacity;
@@ -24,6 +25,7 @@ pub fn series() {
 fn line(name: &[u8], roots: &[u32; 1024]) {
     lines::word(b"lent ");
     lines::word(name);
+    lines::number(every_root(roots));
     lines::number(folded(roots));
     lines::end();
 }
@@ -36,6 +38,20 @@ fn off_by_one(roots: [u32; 1024]) -> [u32; 1024] {
         wrong[k] = e ^ 1;
     }
     wrong
+}
+
+fn every_root(roots: &[u32; 1024]) -> u64 {
+    let mut h = 0;
+    for t in 0..65538 {
+        h = root(roots, h, t);
+    }
+    h
+}
+
+fn root(roots: &[u32; 1024], h: u64, t: u64) -> u64 {
+    let given = capacity::root_with(roots, t);
+    let row = [given.number, given.place, given.value];
+    checksum::fold_row(h, &row)
 }
 
 fn folded(roots: &[u32; 1024]) -> u64 {

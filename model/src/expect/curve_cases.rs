@@ -88,7 +88,7 @@ pub fn print(out: &mut impl Write) -> io::Result<()> {
         series(drawn, out)?;
     }
     for table in ["printed", "off by one", "zeros", "ones", "8191", "4294967295"] {
-        writeln!(out, "lent {table} {}", lent())?;
+        writeln!(out, "lent {table} {} {}", every(|t| RootByTable([t])), lent())?;
     }
     Ok(())
 }

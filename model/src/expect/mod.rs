@@ -8,15 +8,16 @@ mod embedding;
 mod file_cases;
 mod forcing_cases;
 pub mod program_cases;
+pub mod root_speed;
 mod subbasin_series;
 
 use crate::{files, program};
 use std::io::{self, Write};
 
 #[rustfmt::skip]
-const NAMES: [&str; 8] = [
-    "curve_cases", "subbasin_series", "forcing_cases", "file_cases", "basin_series", "program_cases", "embedding",
-    "account",
+const NAMES: [&str; 9] = [
+    "curve_cases", "root_speed", "subbasin_series", "forcing_cases", "file_cases", "basin_series", "program_cases",
+    "embedding", "account",
 ];
 
 pub fn names(out: &mut impl Write) -> io::Result<()> {
@@ -26,6 +27,7 @@ pub fn names(out: &mut impl Write) -> io::Result<()> {
 pub fn print(name: &str, out: &mut impl Write) -> io::Result<()> {
     match name {
         "curve_cases" => curve_cases::print(out),
+        "root_speed" => root_speed::print(out),
         "subbasin_series" => subbasin_series::print(out),
         "forcing_cases" => forcing_cases::print(out),
         "file_cases" => file_cases::print(out),
