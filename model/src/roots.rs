@@ -10,7 +10,10 @@ fn table() -> Vec<u64> {
 
 /// The table as a source file.
 pub fn print(out: &mut impl Write) -> io::Result<()> {
-    writeln!(out, "// Entry k is the greatest r with r * r <= k * 65,536. `model roots` writes this file.")?;
+    writeln!(
+        out,
+        "// Entry k is the greatest r with r * r <= k * 65,536. Written by `model roots`."
+    )?;
     writeln!(out, "pub const ROOTS: [u32; 1024] = [")?;
     for root in table() {
         writeln!(out, "    {root},")?;

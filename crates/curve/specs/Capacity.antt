@@ -1,7 +1,7 @@
 -- Document 01, "The capacity curve", and its calls in "Who sent it".
 use mathlib.Core.Bool.{Bool, cond, _&&_}
 use mathlib.Core.List.{List}
-use Prim.Native.Nat.{ℕ, zero, suc, _+_, _-_, _*_, _/_, _%_, min}
+use Prim.Native.Nat.{ℕ, _+_, _-_, _*_, _/_, _%_, min}
 use lib.Dec.{leb, eqb}
 use Rattle.common.specs.Shares.{one}
 use Rattle.common.specs.Limits.{within}

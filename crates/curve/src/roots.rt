@@ -7,10 +7,10 @@ ghost use Rattle.curve.specs.Workers.{Leads};
 use crate::table::ROOTS;
 use common::shares::ONE;
 
-// An argument below this has an entry of its own.
+// Below this the argument's own entry is the root.
 const ENTRIES: u64 = 1024;
 
-// From this argument on an entry leads near enough.
+// From here on the entry of t / 64 leads near enough.
 const NEAR: u64 = 4096;
 
 // The printed table.
@@ -20,7 +20,7 @@ pub fn printed() -> [u32; 1024]
     ROOTS
 }
 
-// The root of t by the printed table, at once.
+// The root of t by the printed table, which leads to it or to one more; 65,536 has no entry.
 pub fn root_of(t: u64) -> u64
     requires { ⌜ t ≤ one ⌝ }
     ensures { λ r. ⌜ (r ≡ root t) × (r ≤ one) ⌝ }
@@ -36,7 +36,7 @@ pub fn root_of(t: u64) -> u64
     r
 }
 
-// The same by a table that is lent, and by the printed one where that misleads.
+// The same by a table that is lent. Where that misleads, which the squares tell, it is by the printed one.
 pub fn root_with(roots: &[u32; 1024], t: u64) -> u64
     requires { ⌜ t ≤ one ⌝ }
     ensures { λ r. ⌜ (r ≡ root t) × (r ≤ one) ⌝ }
@@ -59,7 +59,7 @@ pub fn root_with(roots: &[u32; 1024], t: u64) -> u64
     root_of(t)
 }
 
-// Where the table leads: by the printed one to the root or to one more.
+// Where a table leads.
 fn lead(roots: &[u32; 1024], t: u64) -> u64
     requires { ⌜ t < one ⌝ }
     ensures { λ r. ⌜ Leads (now (roots .entry)) t r ⌝ }

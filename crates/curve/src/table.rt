@@ -1,4 +1,4 @@
-// Entry k is the greatest r with r * r <= k * 65,536. `model roots` writes this file.
+// Entry k is the greatest r with r * r <= k * 65,536. Written by `model roots`.
 pub const ROOTS: [u32; 1024] = [
     0,
     256,

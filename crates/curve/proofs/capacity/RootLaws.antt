@@ -1,5 +1,5 @@
 -- The root: it is the greatest, it is unique, it grows with t; and Newton's step towards it from above. Assumes nothing.
-use mathlib.Core.Path.{_≡_}
+use mathlib.Core.Path.{_≡_, sym}
 use Prim.Native.Nat.{ℕ, zero, suc, _+_, _-_, _*_, _/_, _≤_, _<_}
 use native.Mathlib.Nat.{mul-le-mul, mul-le-mul-left, lt-mul-div-succ, div-lt-iff-lt-mul}
 use native.Mathlib.Decide.{decLe}
@@ -33,10 +33,30 @@ root-unique t r h k =
     let more : ¬ (r < root t) = λ l. omega (arith, root-square t, square (omega arith)) in
     omega arith
 
-pub root-mono : {s t : ℕ} → s ≤ t → root s ≤ root t
-root-mono {s} {t} h =
-    let more : ¬ (root t < root s) = λ l. omega (arith, root-above t (root s) l, root-square s) in
+-- and it lies between what its square says
+pub root-least : (t r : ℕ) → t * one < (r + 1) * (r + 1) → root t ≤ r
+root-least t r h =
+    let square : r + 1 ≤ root t → (r + 1) * (r + 1) ≤ root t * root t = λ l. mul-le-mul l l in
+    let more : ¬ (r + 1 ≤ root t) = λ l. omega (arith, h, root-square t, square l) in
     omega arith
+
+pub root-most : (t r : ℕ) → r * r ≤ t * one → r ≤ root t
+root-most t r h =
+    let less : ¬ (root t < r) = λ l. omega (arith, h, root-above t r l) in
+    omega arith
+
+pub root-mono : {s t : ℕ} → s ≤ t → root s ≤ root t
+root-mono {s} {t} h = root-most t (root s) (omega (arith, h, root-square s))
+
+-- of four times t it is twice as great
+pub root-half : (t : ℕ) → root (t * 4) / 2 ≡ root t
+root-half t =
+    let r : ℕ = root (t * 4) in
+    let h : ℕ = r / 2 in
+    let even : 2 * h * (2 * h) ≤ r * r = mul-le-mul {n₁ = 2 * h} {m₁ = 2 * h} {n₂ = r} {m₂ = r} (omega arith) (omega arith) in
+    let odd : (r + 1) * (r + 1) ≤ (2 * h + 2) * (2 * h + 2) =
+    mul-le-mul {n₁ = r + 1} {m₁ = r + 1} {n₂ = 2 * h + 2} {m₂ = 2 * h + 2} (omega arith) (omega arith) in
+    sym (root-unique t h (omega (arith, even, root-square (t * 4))) (omega (arith, odd, root-above (t * 4) (r + 1) (omega arith))))
 
 pub root-one : root one ≡ one
 root-one = root-unique one one (omega arith) (omega arith)

@@ -14,7 +14,7 @@ use Rattle.common.proofs.Limits.{parts}
 use Rattle.common.proofs.Loops.{table-in}
 use Rattle.common.proofs.Tables.{passes, passes-at, table-is}
 use Rattle.curve.specs.Capacity.{root, printedRoots}
-use Rattle.curve.proofs.capacity.RootLaws.{root-square, root-above, root-unique, square-positive, newton-above}
+use Rattle.curve.proofs.capacity.RootLaws.{root-square, root-above, root-unique, root-least, root-most, square-positive, newton-above}
 
 -- the table's rule: r is the greatest with r × r ≤ k × 65,536
 abbrev pub right : ℕ → ℕ → Bool
@@ -36,18 +36,6 @@ printed-at e k h = ap (λ (l : List ℕ). getD l k 0) e ∙ table-in root 0 1024
 pub entry-most : (k : ℕ) → k < 1024 → root k < 8192
 entry-most k h =
     let more : ¬ (8192 ≤ root k) = λ l. omega (arith, h, root-square k, mul-le-mul {n₁ = 8192} {m₁ = 8192} {n₂ = root k} {m₂ = root k} l l) in
-    omega arith
-
--- a root between two bounds by their squares
-pub root-least : (t r : ℕ) → t * one < (r + 1) * (r + 1) → root t ≤ r
-root-least t r h =
-    let more : ¬ (r + 1 ≤ root t) =
-    λ l. omega (arith, h, root-square t, mul-le-mul {n₁ = r + 1} {m₁ = r + 1} {n₂ = root t} {m₂ = root t} l l) in
-    omega arith
-
-pub root-most : (t r : ℕ) → r * r ≤ t * one → r ≤ root t
-root-most t r h =
-    let less : ¬ (root t < r) = λ l. omega (arith, h, root-above t r l) in
     omega arith
 
 pub entry-least : (k : ℕ) → 64 ≤ k → 2048 ≤ root k
@@ -98,16 +86,6 @@ module _ (t k r : ℕ) (least : 64 * k ≤ t) (most : t < 64 * k + 64) (from : 6
       near-mean r d x (omega (arith, start, leads)) (omega (arith, quotient-most)) (omega (arith, start, leads, apart)) in
       let at-most : x ≤ root t = root-most t x (omega (arith, mean, product, ap (λ (n : ℕ). n * r) apart)) in
       omega (arith, at-most)
-
--- of four times t the root is twice as great
-pub root-half : (t : ℕ) → root (t * 4) / 2 ≡ root t
-root-half t =
-    let r : ℕ = root (t * 4) in
-    let h : ℕ = r / 2 in
-    let even : 2 * h * (2 * h) ≤ r * r = mul-le-mul {n₁ = 2 * h} {m₁ = 2 * h} {n₂ = r} {m₂ = r} (omega arith) (omega arith) in
-    let odd : (r + 1) * (r + 1) ≤ (2 * h + 2) * (2 * h + 2) =
-    mul-le-mul {n₁ = r + 1} {m₁ = r + 1} {n₂ = 2 * h + 2} {m₂ = 2 * h + 2} (omega arith) (omega arith) in
-    sym (root-unique t h (omega (arith, even, root-square (t * 4))) (omega (arith, odd, root-above (t * 4) (r + 1) (omega arith))))
 
 -- what is the root or one more: its square tells which
 module _ (t r : ℕ) (h : (root t ≤ r) × (r ≤ root t + 1)) where

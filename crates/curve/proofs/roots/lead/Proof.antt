@@ -1,8 +1,7 @@
 -- `curve::roots::lead` meets its contract. Assumes nothing.
-use Prim.Native.Nat.{_*_}
 use native.Mathlib.Omega.{arith}
 use borrow.Author.Needs.{needs}
-use Rattle.curve.proofs.roots.LeadLaws.{root-half}
+use Rattle.curve.proofs.capacity.RootLaws.{root-half}
 use Rattle.curve.proofs.roots.lead.Statement.{statement}
 use Rattle.curve.proofs.roots.lead.Tie as tie
 

@@ -1,5 +1,5 @@
 -- `curve::roots::near` meets its contract. Assumes nothing.
-use Prim.Native.Nat.{_+_, _*_, _/_}
+use Prim.Native.Nat.{_*_, _/_}
 use native.Mathlib.Nat.{div-le-self}
 use native.Mathlib.Omega.{arith}
 use borrow.Author.Needs.{needs}

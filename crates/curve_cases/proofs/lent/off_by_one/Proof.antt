@@ -1,10 +1,8 @@
 -- `curve_cases::lent::off_by_one` is safe and ends: k rises to 1,024.
 -- Assumes nothing.
-use mathlib.Core.Path.{_≡_}
 use Prim.Native.Nat.{_≤_, _-_}
 use borrow.Author.Needs.{needs}
 use native.Mathlib.Omega.{arith}
-use lib.ListN.{length}
 use Rattle.curve_cases.proofs.lent.off_by_one.Statement.{statement}
 use Rattle.curve_cases.proofs.lent.off_by_one.Tie as tie
 
