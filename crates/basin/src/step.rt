@@ -11,6 +11,7 @@ use crate::network;
 use crate::state::Basin;
 use common::weather::Weather;
 use curve::capacity;
+use curve::capacity::Roots;
 use forcing::list;
 use forcing::list::Forcing;
 use forcing::list::Line;
@@ -129,13 +130,7 @@ struct Subs {
 }
 
 // The steps of sub-basins 1..N.
-fn step_subs(
-    roots: &[u32; 1024],
-    before: [SubBasin; 32],
-    weather: [Weather; 32],
-    n: u64,
-    m: u64,
-) -> Subs
+fn step_subs(roots: &Roots, before: [SubBasin; 32], weather: [Weather; 32], n: u64, m: u64) -> Subs
     requires { ⌜ (n ≤ 32) × (m ≤ 31) × Weathers weather ⌝ }
     ensures { λ r. ⌜ SubsOf (subsOnly n m before) weather r ⌝ }
 {
@@ -190,7 +185,7 @@ struct Turn {
     held: u64,
 }
 
-fn take_turn(roots: &[u32; 1024], s: SubBasin, w: Weather, m: u64) -> Turn
+fn take_turn(roots: &Roots, s: SubBasin, w: Weather, m: u64) -> Turn
     requires { ⌜ (m ≤ 31) × WeatherIn w ⌝ }
     ensures { λ r. ⌜ TurnOf m s w r ⌝ }
 {

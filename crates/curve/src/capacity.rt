@@ -8,6 +8,9 @@ ghost use Rattle.curve.specs.Capacity.{leastE, mostE, mostC, mostM, curv
 use crate::roots;
 use common::shares::ONE;
 
+// A table of roots, to be lent: whatever stands in it, an answer is the same, and by the printed one it comes soonest.
+pub type Roots = [u32; 1024];
+
 // What a call of the curve answers: number and place are 0 where it is accepted.
 pub struct Answer {
     pub number: u64,
@@ -52,8 +55,8 @@ pub fn root_by_table(t: u64) -> Answer
     accept(roots::root_of(t))
 }
 
-// The printed table, to be lent. A call that is lent none makes it anew.
-pub fn printed_roots() -> [u32; 1024]
+// The printed table. A call that is lent none makes it anew.
+pub fn printed_roots() -> Roots
     ensures { λ r. ⌜ r ≡ printedRoots ⌝ }
 {
     roots::printed()
@@ -89,8 +92,8 @@ pub fn ordinate(c: u64, m: u64, e: u64, w: u64) -> Answer
     ordinate_with(&roots, c, m, e, w)
 }
 
-// Root, Held and Ordinate with a table that is lent. Whatever stands in it, they answer the same; by the printed one they do so soonest.
-pub fn root_with(roots: &[u32; 1024], t: u64) -> Answer
+// Root, Held and Ordinate with a table that is lent.
+pub fn root_with(roots: &Roots, t: u64) -> Answer
     ensures { λ r. ⌜ r ≡ rootCall t ⌝ }
 {
     if ONE < t {
@@ -99,7 +102,7 @@ pub fn root_with(roots: &[u32; 1024], t: u64) -> Answer
     accept(roots::root_with(roots, t))
 }
 
-pub fn held_with(roots: &[u32; 1024], c: u64, m: u64, e: u64, a: u64) -> Answer
+pub fn held_with(roots: &Roots, c: u64, m: u64, e: u64, a: u64) -> Answer
     ensures { λ r. ⌜ r ≡ heldCall c m e a ⌝ }
 {
     if outside(c, m, e) {
@@ -111,7 +114,7 @@ pub fn held_with(roots: &[u32; 1024], c: u64, m: u64, e: u64, a: u64) -> Answer
     accept(held_of(roots, c, m, e, a))
 }
 
-pub fn ordinate_with(roots: &[u32; 1024], c: u64, m: u64, e: u64, w: u64) -> Answer
+pub fn ordinate_with(roots: &Roots, c: u64, m: u64, e: u64, w: u64) -> Answer
     ensures { λ r. ⌜ r ≡ ordinateCall c m e w ⌝ }
 {
     if outside(c, m, e) {
@@ -197,7 +200,7 @@ fn root_of(t: u64) -> u64
     r
 }
 
-fn root_by(led: bool, roots: &[u32; 1024], t: u64) -> u64
+fn root_by(led: bool, roots: &Roots, t: u64) -> u64
     requires { ⌜ t ≤ one ⌝ }
     ensures { λ r. ⌜ (r ≡ root t) × (r ≤ one) ⌝ }
 {
@@ -220,7 +223,7 @@ fn whole_of(t: u64, k: u64) -> u64
 }
 
 // A root is taken only where a lower bit of e needs it.
-fn power_of(led: bool, roots: &[u32; 1024], t: u64, e: u64) -> u64
+fn power_of(led: bool, roots: &Roots, t: u64, e: u64) -> u64
     requires { ⌜ t ≤ one ⌝ }
     ensures { λ r. ⌜ (r ≡ power t e) × (r ≤ one) ⌝ }
 {
@@ -261,7 +264,7 @@ struct Point {
     held: u64,
 }
 
-fn point_at(roots: &[u32; 1024], c: u64, m: u64, e: u64, a: u64) -> Point
+fn point_at(roots: &Roots, c: u64, m: u64, e: u64, a: u64) -> Point
     requires { ⌜ (c ≤ mostC) × (0 < m) × (m ≤ mostM) × (a ≤ m) ⌝ }
     ensures { λ r. ⌜ (r .held ≡ held c m e a) × (r .share ≤ one) × (r .power ≤ one) ⌝ }
 {
@@ -274,7 +277,7 @@ fn point_at(roots: &[u32; 1024], c: u64, m: u64, e: u64, a: u64) -> Point
     }
 }
 
-fn held_of(roots: &[u32; 1024], c: u64, m: u64, e: u64, a: u64) -> u64
+fn held_of(roots: &Roots, c: u64, m: u64, e: u64, a: u64) -> u64
     requires { ⌜ (c ≤ mostC) × (0 < m) × (m ≤ mostM) × (a ≤ m) ⌝ }
     ensures { λ r. ⌜ r ≡ held c m e a ⌝ }
 {
@@ -284,7 +287,7 @@ fn held_of(roots: &[u32; 1024], c: u64, m: u64, e: u64, a: u64) -> u64
 
 // The interval from lo to hi is narrowed: lo holds at most w, hi holds more. Where it is tried is a guess for the first turns
 // and then its middle; any point between lo and hi will do.
-fn ordinate_of(roots: &[u32; 1024], c: u64, m: u64, e: u64, w: u64) -> u64
+fn ordinate_of(roots: &Roots, c: u64, m: u64, e: u64, w: u64) -> u64
     requires { ⌜ (c ≤ mostC) × (0 < m) × (m ≤ mostM) × (leastE ≤ e) × (e ≤ mostE) × (w ≤ c) ⌝ }
     ensures { λ r. ⌜ r ≡ ordinate c m e w ⌝ }
 {

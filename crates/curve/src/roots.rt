@@ -4,6 +4,7 @@ ghost use Prim.Native.Nat.{_≤_, _<_};
 ghost use Rattle.common.specs.Shares.{one};
 ghost use Rattle.curve.specs.Capacity.{root, printedRoots};
 ghost use Rattle.curve.specs.Workers.{Leads};
+use crate::capacity::Roots;
 use crate::table::ROOTS;
 use common::shares::ONE;
 
@@ -14,7 +15,7 @@ const ENTRIES: u64 = 1024;
 const NEAR: u64 = 4096;
 
 // The printed table.
-pub fn printed() -> [u32; 1024]
+pub fn printed() -> Roots
     ensures { λ r. ⌜ r ≡ printedRoots ⌝ }
 {
     ROOTS
@@ -37,7 +38,7 @@ pub fn root_of(t: u64) -> u64
 }
 
 // The same by a table that is lent. Where that misleads, which the squares tell, it is by the printed one.
-pub fn root_with(roots: &[u32; 1024], t: u64) -> u64
+pub fn root_with(roots: &Roots, t: u64) -> u64
     requires { ⌜ t ≤ one ⌝ }
     ensures { λ r. ⌜ (r ≡ root t) × (r ≤ one) ⌝ }
 {
@@ -60,7 +61,7 @@ pub fn root_with(roots: &[u32; 1024], t: u64) -> u64
 }
 
 // Where a table leads.
-fn lead(roots: &[u32; 1024], t: u64) -> u64
+fn lead(roots: &Roots, t: u64) -> u64
     requires { ⌜ t < one ⌝ }
     ensures { λ r. ⌜ Leads (now (roots .entry)) t r ⌝ }
 {
@@ -74,7 +75,7 @@ fn lead(roots: &[u32; 1024], t: u64) -> u64
 }
 
 // Newton's step from eight times the entry of t / 64.
-fn near(roots: &[u32; 1024], t: u64) -> u64
+fn near(roots: &Roots, t: u64) -> u64
     requires { ⌜ (4096 ≤ t) × (t < one) ⌝ }
     ensures { λ r. ⌜ Leads (now (roots .entry)) t r ⌝ }
 {
@@ -86,7 +87,7 @@ fn near(roots: &[u32; 1024], t: u64) -> u64
 }
 
 // An entry of the printed table is below 8,192; a greater one leads nowhere.
-fn entry(roots: &[u32; 1024], k: u64) -> u64
+fn entry(roots: &Roots, k: u64) -> u64
     requires { ⌜ k < 1024 ⌝ }
     ensures { λ r. ⌜ (now (roots .entry) ≡ printedRoots → r ≡ root k) × (r < 8192) ⌝ }
 {

@@ -3,6 +3,7 @@
 use crate::calls::Call;
 use crate::random;
 use curve::capacity;
+use curve::capacity::Roots;
 use testing::chance::Drawn;
 use testing::checksum;
 use testing::lines;
@@ -22,7 +23,7 @@ pub fn series() {
     line(b"4294967295", &far);
 }
 
-fn line(name: &[u8], roots: &[u32; 1024]) {
+fn line(name: &[u8], roots: &Roots) {
     lines::word(b"lent ");
     lines::word(name);
     lines::number(every_root(roots));
@@ -31,7 +32,7 @@ fn line(name: &[u8], roots: &[u32; 1024]) {
 }
 
 // Each entry is one more or one less.
-fn off_by_one(roots: [u32; 1024]) -> [u32; 1024] {
+fn off_by_one(roots: Roots) -> Roots {
     let mut wrong = roots;
     for k in 0usize..1024 {
         let e = wrong[k];
@@ -40,7 +41,7 @@ fn off_by_one(roots: [u32; 1024]) -> [u32; 1024] {
     wrong
 }
 
-fn every_root(roots: &[u32; 1024]) -> u64 {
+fn every_root(roots: &Roots) -> u64 {
     let mut h = 0;
     for t in 0..65538 {
         h = root(roots, h, t);
@@ -48,13 +49,13 @@ fn every_root(roots: &[u32; 1024]) -> u64 {
     h
 }
 
-fn root(roots: &[u32; 1024], h: u64, t: u64) -> u64 {
+fn root(roots: &Roots, h: u64, t: u64) -> u64 {
     let given = capacity::root_with(roots, t);
     let row = [given.number, given.place, given.value];
     checksum::fold_row(h, &row)
 }
 
-fn folded(roots: &[u32; 1024]) -> u64 {
+fn folded(roots: &Roots) -> u64 {
     let mut s = Drawn { x: 1, h: 0 };
     for _ in 0u64..10000 {
         s = turn(roots, s);
@@ -63,7 +64,7 @@ fn folded(roots: &[u32; 1024]) -> u64 {
 }
 
 // A Held and an Ordinate of the same draws.
-fn turn(roots: &[u32; 1024], s: Drawn) -> Drawn {
+fn turn(roots: &Roots, s: Drawn) -> Drawn {
     let draws = random::eight(s.x);
     let v = random::arguments(Call::Held, draws);
     let held = capacity::held_with(roots, v[0], v[1], v[2], v[3]);

@@ -2,6 +2,7 @@
 // early. `root_speed WAY` takes 100 rounds of 65,536 by one way; without an argument it takes a round by each, which is a test.
 ghost use Prim.Native.Nat.{_≤_};
 use curve::capacity;
+use curve::capacity::Roots;
 use testing::lines;
 
 enum Way {
@@ -34,7 +35,7 @@ fn named(letter: u8) -> Way {
     }
 }
 
-fn print(way: Way, roots: &[u32; 1024], count: u64)
+fn print(way: Way, roots: &Roots, count: u64)
     requires { ⌜ count ≤ 6553600 ⌝ }
 {
     match way {
@@ -48,7 +49,7 @@ fn print(way: Way, roots: &[u32; 1024], count: u64)
 }
 
 // The last root of a chain.
-fn chain(way: Way, roots: &[u32; 1024], count: u64) -> u64
+fn chain(way: Way, roots: &Roots, count: u64) -> u64
     requires { ⌜ count ≤ 6553600 ⌝ }
 {
     let mut r = 0;
@@ -58,7 +59,7 @@ fn chain(way: Way, roots: &[u32; 1024], count: u64) -> u64
     r
 }
 
-fn root(way: Way, roots: &[u32; 1024], t: u64) -> u64 {
+fn root(way: Way, roots: &Roots, t: u64) -> u64 {
     match way {
         Way::Idle => t,
         Way::Newton => value(capacity::root(t)),

@@ -7,6 +7,7 @@ use crate::record::Parameters;
 use crate::soil;
 use common::amounts::least;
 use common::shares::ONE;
+use curve::capacity::Roots;
 
 // Surface flow, interflow and ground water, and the free water that is left.
 pub struct Parted {
@@ -17,7 +18,7 @@ pub struct Parted {
 }
 
 // Free water g and pervious runoff r, under net rain pe: what is not kept is surface flow, and what is kept drains.
-pub fn drain(roots: &[u32; 1024], p: Parameters, g: u64, pe: u64, r: u64) -> Parted
+pub fn drain(roots: &Roots, p: Parameters, g: u64, pe: u64, r: u64) -> Parted
     requires { ⌜ FreeIn p × (g ≤ p .sm) × (r ≤ pe) × (pe ≤ 1000000) ⌝ }
     ensures { λ d. ⌜ d ≡ parted p g pe r ⌝ }
 {
@@ -33,7 +34,7 @@ pub fn drain(roots: &[u32; 1024], p: Parameters, g: u64, pe: u64, r: u64) -> Par
 }
 
 // What is kept of g + r; the producing area is r / pe of the sub-basin.
-fn keep_of(roots: &[u32; 1024], p: Parameters, g: u64, pe: u64, r: u64) -> u64
+fn keep_of(roots: &Roots, p: Parameters, g: u64, pe: u64, r: u64) -> u64
     requires { ⌜ FreeIn p × (g ≤ p .sm) × (r ≤ pe) × (pe ≤ 1000000) ⌝ }
     ensures { λ d. ⌜ d ≡ keep p g pe r ⌝ }
 {

@@ -9,6 +9,7 @@ use crate::record::Parameters;
 use common::amounts::least;
 use common::shares::ONE;
 use curve::capacity;
+use curve::capacity::Roots;
 
 // Water in the upper, lower and deep layer.
 pub struct Layers {
@@ -85,7 +86,7 @@ fn fall(w: Layers, rain: u64, u: u64, el: u64, ed: u64) -> Evaporated
 }
 
 // Runoff from the impervious part, and from what the soil can't hold of the rest of the net rain.
-pub fn run_off(roots: &[u32; 1024], p: Parameters, w: Layers, pe: u64) -> Runoff
+pub fn run_off(roots: &Roots, p: Parameters, w: Layers, pe: u64) -> Runoff
     requires { ⌜ SoilIn p × LayersIn p w × (pe ≤ 1000000) ⌝ }
     ensures { λ r. ⌜ r ≡ runoff p w pe ⌝ }
 {
@@ -107,7 +108,7 @@ pub fn run_off(roots: &[u32; 1024], p: Parameters, w: Layers, pe: u64) -> Runoff
 }
 
 // What of x the soil holds, where its water w lies along the capacity curve and net rain pe comes on top.
-fn gain_of(roots: &[u32; 1024], p: Parameters, w: u64, pe: u64, x: u64) -> u64
+fn gain_of(roots: &Roots, p: Parameters, w: u64, pe: u64, x: u64) -> u64
     requires { ⌜ SoilIn p × (w ≤ wm p) × (0 < pe) × (pe ≤ 1000000) ⌝ }
     ensures { λ r. ⌜ r ≡ gain p w pe x ⌝ }
 {
@@ -117,7 +118,7 @@ fn gain_of(roots: &[u32; 1024], p: Parameters, w: u64, pe: u64, x: u64) -> u64
 }
 
 // What the curve holds once pe has come on top of w.
-pub fn raise(roots: &[u32; 1024], c: u64, m: u64, e: u64, w: u64, pe: u64) -> u64
+pub fn raise(roots: &Roots, c: u64, m: u64, e: u64, w: u64, pe: u64) -> u64
     requires { ⌜ (curveIn c m e ≡ true) × (w ≤ c) × (pe ≤ 1000000) ⌝ }
     ensures { λ r. ⌜ r ≡ rise c m e w pe ⌝ }
 {

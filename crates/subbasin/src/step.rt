@@ -21,6 +21,7 @@ use common::weather::MOST_PAN;
 use common::weather::MOST_RAIN;
 use common::weather::Weather;
 use curve::capacity;
+use curve::capacity::Roots;
 use curve::store::Store;
 
 // What a step of a sub-basin gives: number and place are 0 where it is accepted. Depths in µm, q in m³.
@@ -48,7 +49,7 @@ pub fn step(s: SubBasin, weather: Weather) -> Stepped
 }
 
 // The same with a table of roots that is lent (curve::capacity), for whoever takes many steps.
-pub fn step_with(roots: &[u32; 1024], s: SubBasin, weather: Weather) -> Stepped
+pub fn step_with(roots: &Roots, s: SubBasin, weather: Weather) -> Stepped
     ensures { λ r. ⌜ r ≡ subCall s weather ⌝ }
 {
     let p = s.fixed;
@@ -84,7 +85,7 @@ fn refuse(s: SubBasin) -> Stepped
 }
 
 // The stages in order: evapotranspiration, runoff, free water, then the way to the outlet.
-fn run(roots: &[u32; 1024], s: SubBasin, weather: Weather) -> Stepped
+fn run(roots: &Roots, s: SubBasin, weather: Weather) -> Stepped
     requires { ⌜ (recordIn (s .fixed .reach) s ≡ true) × WeatherIn weather ⌝ }
     ensures { λ r. ⌜ r ≡ stepped s weather ⌝ }
 {

@@ -33,7 +33,7 @@ root-unique t r h k =
     let more : ¬ (r < root t) = λ l. omega (arith, root-square t, square (omega arith)) in
     omega arith
 
--- and it lies between what its square says
+-- what a square says of it
 pub root-least : (t r : ℕ) → t * one < (r + 1) * (r + 1) → root t ≤ r
 root-least t r h =
     let square : r + 1 ≤ root t → (r + 1) * (r + 1) ≤ root t * root t = λ l. mul-le-mul l l in
