@@ -41,10 +41,19 @@ pub fn step(b: Basin, lines: [Line; 32], count: u64) -> Outcome
     ensures answers { λ r. ⌜ r ≡ stepCall b lines count ⌝ }
     ensures judges { λ r. ⌜ Judged b lines count r ⌝ }
 {
+    let roots = capacity::printed_roots();
+    step_with(&roots, b, lines, count)
+}
+
+// The same with a table of roots that is lent (curve::capacity), for whoever takes many steps.
+pub fn step_with(roots: &Roots, b: Basin, lines: [Line; 32], count: u64) -> Outcome
+    ensures answers { λ r. ⌜ r ≡ stepCall b lines count ⌝ }
+    ensures judges { λ r. ⌜ Judged b lines count r ⌝ }
+{
     let f = list::read(lines, count, b.n);
     if limits::others_allowed(b) {
         if f.number == 0 {
-            return take(b, f);
+            return take(roots, b, f);
         }
         return refuse_forcing(b, f.number, f.place);
     }
@@ -83,14 +92,13 @@ fn refuse(b: Basin, number: u64, place: u64) -> Outcome
 
 // A step whose forcing is accepted, on a basin that 9 allows but for the sub-basins in use: their own steps judge their records, and
 // a refusal there is the basin's 9.
-fn take(b: Basin, f: Forcing) -> Outcome
+fn take(roots: &Roots, b: Basin, f: Forcing) -> Outcome
     requires { ⌜ (othersIn b ≡ true) × Weathers (f .weather) ⌝ }
     ensures { λ r. ⌜ r ≡ cond (basinIn b) (taken b f) (refusedStep b 9 0) ⌝ }
 {
     let before = b.subs;
     let weather = f.weather;
-    let roots = capacity::printed_roots();
-    let stepped = step_subs(&roots, before, weather, b.n, b.m);
+    let stepped = step_subs(roots, before, weather, b.n, b.m);
     if stepped.number != 0 {
         return refuse(b, 9, 0);
     }

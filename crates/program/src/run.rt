@@ -17,6 +17,7 @@ use basin::state::Basin;
 use basin::step;
 use basin::step::Outcome;
 use basin::step::Report;
+use curve::capacity;
 use forcing::file;
 use libc::STDERR_FILENO;
 
@@ -116,6 +117,7 @@ fn take_steps(bytes: &[u8], out: &mut [u8], given: Outcome, n: u64, done: u64) -
     ensures { λ r. ⌜ Stepped (given .basin) n done (now (bytes .entry)) (r .given .basin) (r .steps) (r .bytes) (now (out .exit)) (r .end) ⌝ }
 {
     let size = (file::LINE_BYTES * n) as usize;
+    let roots = capacity::printed_roots();
     let mut given = given;
     let mut at = 0;
     let mut end = 0;
@@ -124,7 +126,7 @@ fn take_steps(bytes: &[u8], out: &mut [u8], given: Outcome, n: u64, done: u64) -
         let next = at + size;
         let lines = file::lines_of(&bytes[at..next], n);
         let before = given.basin;
-        given = step::step(before, lines, n);
+        given = step::step_with(&roots, before, lines, n);
         let report = given.report;
         end = print::put_step(out, end, done + i + 1, given.number, given.place, report);
         at = next;

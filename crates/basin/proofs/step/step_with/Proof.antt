@@ -1,10 +1,10 @@
--- `basin::step::step` meets its contract: each way out is a law of the step call. Assumes nothing.
+-- `basin::step::step_with` meets its contract: each way out is a law of the step call. Assumes nothing.
 use mathlib.Core.Path.{sym, _∙_}
 use borrow.Author.Needs.{needs}
 use Rattle.basin.proofs.step.StepLaws.{reading-weathers}
 use Rattle.basin.proofs.step.CallLaws.{call-accepted, call-refused, others-outside, answers}
-use Rattle.basin.proofs.step.step.Statement.{statement}
-use Rattle.basin.proofs.step.step.Tie as tie
+use Rattle.basin.proofs.step.step_with.Statement.{statement}
+use Rattle.basin.proofs.step.step_with.Tie as tie
 
 take-requires : tie.Need-take-requires
 take-requires c κs =
@@ -25,8 +25,8 @@ returns-2 c =
 returns-3 : tie.Need-returns-3
 returns-3 c = answers _ _ _ (c .refuse .ensures ∙ others-outside _ _ _ (sym (c .before .before .others-allowed .ensures) ∙ c .before .if1 .left))
 
-pub step-spec : {M : Type 1} → statement M
-step-spec =
+pub step-with-spec : {M : Type 1} → statement M
+step-with-spec =
     tie.close
     (tie.spec (λ c κs. search needs) (λ c κs. search needs) take-requires returns refuse-forcing-requires returns-2 (λ c κs. search needs)
     returns-3)
