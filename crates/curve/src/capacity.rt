@@ -3,8 +3,11 @@ ghost use mathlib.Core.Path.{_≡_};
 ghost use mathlib.Core.Bool.{not};
 ghost use Prim.Native.Nat.{_+_, _≤_, _<_};
 ghost use Rattle.common.specs.Shares.{one};
-ghost use Rattle.curve.specs.Capacity.{root, printedRoots, whole, part, power, held, ordinate};
+ghost use Rattle.curve.specs.Capacity.{printedRoots, held, ordinate};
 ghost use Rattle.curve.specs.Capacity.{leastE, mostE, mostC, mostM, curveIn, value, refused, rootCall, powerCall, heldCall, ordinateCall};
+use crate::powers;
+use crate::powers::NEWTON;
+use crate::powers::TABLE;
 use crate::roots;
 use common::shares::ONE;
 
@@ -30,11 +33,6 @@ const MOST_M: u64 = 2000000;
 // The turns of an ordinate search that try a guess.
 const GUESSES: u64 = 8;
 
-// How a root is found: by Newton's steps, or led by a table.
-const NEWTON: bool = false;
-
-const TABLE: bool = true;
-
 // The greatest r with r * r <= t * 65,536, by Newton's steps.
 pub fn root(t: u64) -> Answer
     ensures { λ r. ⌜ r ≡ rootCall t ⌝ }
@@ -42,7 +40,7 @@ pub fn root(t: u64) -> Answer
     if ONE < t {
         return refuse();
     }
-    accept(root_of(t))
+    accept(powers::root_of(t))
 }
 
 // The same, by the printed table.
@@ -184,77 +182,7 @@ fn power_by(led: bool, t: u64, e: u64) -> Answer
         return refuse();
     }
     let roots = roots::printed();
-    accept(power_of(led, &roots, t, e))
-}
-
-// Newton's steps from above: the first guess is the mean of t and 65,536, and a guess whose square is too great goes down.
-fn root_of(t: u64) -> u64
-    requires { ⌜ t ≤ one ⌝ }
-    ensures { λ r. ⌜ (r ≡ root t) × (r ≤ one) ⌝ }
-{
-    let n = t * ONE;
-    let mut r = (ONE + t) / 2;
-    while n < r * r {
-        r = (r + n / r) / 2;
-    }
-    r
-}
-
-fn root_by(led: bool, roots: &Roots, t: u64) -> u64
-    requires { ⌜ t ≤ one ⌝ }
-    ensures { λ r. ⌜ (r ≡ root t) × (r ≤ one) ⌝ }
-{
-    if led {
-        return roots::root_with(roots, t);
-    }
-    root_of(t)
-}
-
-// 65,536, k times multiplied by t and divided by 65,536.
-fn whole_of(t: u64, k: u64) -> u64
-    requires { ⌜ t ≤ one ⌝ }
-    ensures { λ r. ⌜ (r ≡ whole t k) × (r ≤ one) ⌝ }
-{
-    let mut x = ONE;
-    for _ in 0..k {
-        x = x * t / ONE;
-    }
-    x
-}
-
-// A root is taken only where a lower bit of e needs it.
-fn power_of(led: bool, roots: &Roots, t: u64, e: u64) -> u64
-    requires { ⌜ t ≤ one ⌝ }
-    ensures { λ r. ⌜ (r ≡ power t e) × (r ≤ one) ⌝ }
-{
-    let x = whole_of(t, e / 16);
-    if e % 16 == 0 {
-        return x;
-    }
-    let r1 = root_by(led, roots, t);
-    let x1 = part_of(e, 8, r1, x);
-    if e % 8 == 0 {
-        return x1;
-    }
-    let r2 = root_by(led, roots, r1);
-    let x2 = part_of(e, 4, r2, x1);
-    if e % 4 == 0 {
-        return x2;
-    }
-    let r3 = root_by(led, roots, r2);
-    let x3 = part_of(e, 2, r3, x2);
-    if e % 2 == 0 {
-        return x3;
-    }
-    part_of(e, 1, root_by(led, roots, r3), x3)
-}
-
-// x times r over 65,536, where e mod 16 holds the bit b.
-fn part_of(e: u64, b: u64, r: u64, x: u64) -> u64
-    requires { ⌜ (0 < b) × (r ≤ one) × (x ≤ one) ⌝ }
-    ensures { λ y. ⌜ (y ≡ part e b r x) × (y ≤ one) ⌝ }
-{
-    if e % 16 / b % 2 == 1 { x * r / ONE } else { x }
+    accept(powers::power_of(led, &roots, t, e))
 }
 
 // A point of the curve: the share above it, the power of that share, and what is held below it.
@@ -269,7 +197,7 @@ fn point_at(roots: &Roots, c: u64, m: u64, e: u64, a: u64) -> Point
     ensures { λ r. ⌜ (r .held ≡ held c m e a) × (r .share ≤ one) × (r .power ≤ one) ⌝ }
 {
     let t = (m - a) * ONE / m;
-    let p = power_of(TABLE, roots, t, e);
+    let p = powers::power_of(TABLE, roots, t, e);
     Point {
         share: t,
         power: p,

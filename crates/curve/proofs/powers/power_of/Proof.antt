@@ -1,12 +1,12 @@
--- `curve::capacity::power_of` meets its contract: where the lower bits of e are 0, the parts that are left out change nothing. Assumes nothing.
+-- `curve::powers::power_of` meets its contract: where the lower bits of e are 0, the parts that are left out change nothing. Assumes nothing.
 use mathlib.Core.Path.{_≡_, _∙_}
 use Prim.Native.Nat.{ℕ, _/_, _%_}
 use native.Mathlib.Omega.{arith}
 use borrow.Author.Tests.{ne-eqb}
 use borrow.Author.Needs.{needs}
 use Rattle.curve.specs.Capacity.{root, whole, part, power}
-use Rattle.curve.proofs.capacity.power_of.Statement.{statement}
-use Rattle.curve.proofs.capacity.power_of.Tie as tie
+use Rattle.curve.proofs.powers.power_of.Statement.{statement}
+use Rattle.curve.proofs.powers.power_of.Tie as tie
 
 part-out : (e b r x : ℕ) → ¬ (e % 16 / b % 2 ≡ 1) → part e b r x ≡ x
 unfolding part

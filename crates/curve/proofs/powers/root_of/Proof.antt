@@ -1,4 +1,4 @@
--- `curve::capacity::root_of` meets its contract. The invariant of its loop: the square of r + 1 is above n, which with the
+-- `curve::powers::root_of` meets its contract. The invariant of its loop: the square of r + 1 is above n, which with the
 -- test that fails at the end makes r the root. The measure is r, which each of Newton's steps brings down. Assumes nothing.
 use mathlib.Core.Path.{_≡_, refl, sym, subst}
 use Prim.Native.Nat.{ℕ, _+_, _*_, _/_, _≤_, _<_}
@@ -7,8 +7,8 @@ use native.Mathlib.Omega.{arith}
 use Rattle.common.specs.Shares.{one}
 use Rattle.curve.proofs.capacity.PowerLaws.{shares-le}
 use Rattle.curve.proofs.capacity.RootLaws.{root-unique, square-positive, newton-above, newton-less}
-use Rattle.curve.proofs.capacity.root_of.Statement.{statement}
-use Rattle.curve.proofs.capacity.root_of.Tie as tie
+use Rattle.curve.proofs.powers.root_of.Statement.{statement}
+use Rattle.curve.proofs.powers.root_of.Tie as tie
 
 abbrev Inv-loop : tie.InvT-loop
 Inv-loop t n r₀ r = (n ≡ t * one) × (n < (r + 1) * (r + 1)) × (r ≤ one)

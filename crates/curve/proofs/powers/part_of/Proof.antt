@@ -1,11 +1,11 @@
--- `curve::capacity::part_of` meets its contract: the test is the definition's own. Assumes nothing.
+-- `curve::powers::part_of` meets its contract: the test is the definition's own. Assumes nothing.
 use native.Mathlib.Omega.{arith}
 use borrow.Author.Needs.{needs}
 use borrow.Author.Tests.{eq-eqb, ne-eqb}
 use Rattle.curve.specs.Capacity.{part}
 use Rattle.curve.proofs.capacity.PowerLaws.{shares-le}
-use Rattle.curve.proofs.capacity.part_of.Statement.{statement}
-use Rattle.curve.proofs.capacity.part_of.Tie as tie
+use Rattle.curve.proofs.powers.part_of.Statement.{statement}
+use Rattle.curve.proofs.powers.part_of.Tie as tie
 
 mul-result : tie.Need-mul-result
 mul-result c = omega (arith, shares-le (c .before .pre .2) (c .before .pre .1))

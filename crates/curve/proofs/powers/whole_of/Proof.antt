@@ -1,4 +1,4 @@
--- `curve::capacity::whole_of` meets its contract: x is carried from turn to turn, and stays a share. Assumes nothing.
+-- `curve::powers::whole_of` meets its contract: x is carried from turn to turn, and stays a share. Assumes nothing.
 use mathlib.Core.Path.{refl}
 use Prim.Native.Nat.{_-_, _≤_}
 use native.Mathlib.Omega.{arith}
@@ -6,8 +6,8 @@ use Rattle.common.specs.Shares.{one}
 use Rattle.common.proofs.Loops.{Carrying, carry-begin, carry-turn, carry-end}
 use Rattle.curve.specs.Capacity.{by, whole}
 use Rattle.curve.proofs.capacity.PowerLaws.{shares-le}
-use Rattle.curve.proofs.capacity.whole_of.Statement.{statement}
-use Rattle.curve.proofs.capacity.whole_of.Tie as tie
+use Rattle.curve.proofs.powers.whole_of.Statement.{statement}
+use Rattle.curve.proofs.powers.whole_of.Tie as tie
 
 abbrev Inv-loop : tie.InvT-loop
 Inv-loop t k x₀ counter₀ x counter = Carrying (λ i y. by y t) one k counter x × (x ≤ one)
