@@ -3,6 +3,7 @@
 use crate::chance::Chance;
 use crate::curve;
 use crate::expect::root_speed::{chain, ROUND};
+use crate::expect::week_speed::SIZES;
 use crate::files::{line, Files, LineWords, MEASURED};
 use crate::record::{range, WORDS};
 use std::fs;
@@ -95,6 +96,28 @@ pub fn roots(root_speed: &Path, out: &mut impl Write) -> io::Result<()> {
         ("the model's", own - bare),
     ] {
         writeln!(out, "{:6.1} ns   {name}", each(time))?;
+    }
+    Ok(())
+}
+
+/// A step, in microseconds: in a week call, by itself, and by itself with a table of roots that is lent. What the program
+/// takes without a step is taken off.
+pub fn weeks(week_speed: &Path, out: &mut impl Write) -> io::Result<()> {
+    writeln!(
+        out,
+        "sub-basins  steps      week    single  ratio      lent  ratio   (best of {RUNS})"
+    )?;
+    for (n, _, steps) in SIZES {
+        let [idle, week, single, lent] = best(["idle", "week", "steps", "lent"].map(|way| {
+            let mut weeks = Command::new(week_speed);
+            weeks.arg(way).arg(n.to_string());
+            weeks
+        }))?;
+        let each = |all: f64| 1_000.0 * (all - idle) / (100 * steps) as f64;
+        let [week, single, lent] = [each(week), each(single), each(lent)];
+        let [ratio, lent_ratio] = [week / single, week / lent];
+        write!(out, "{n:10} {steps:6} {week:6.2} µs {single:6.2} µs {ratio:6.2} ")?;
+        writeln!(out, "{lent:6.2} µs {lent_ratio:6.2}")?;
     }
     Ok(())
 }

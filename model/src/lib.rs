@@ -16,4 +16,5 @@ pub mod roots;
 pub mod sample;
 pub mod store;
 pub mod subbasin;
+pub mod week;
 pub mod words;

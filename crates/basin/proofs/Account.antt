@@ -1,19 +1,14 @@
--- Demand 3: the account of every list of calls from every file that a load accepts. Assumes nothing.
+-- Demand 3: the account of every list of single steps and week calls from every file that a load accepts. Assumes nothing.
 use mathlib.Core.Path.{_≡_, refl, sym, ap, _∙_}
-use mathlib.Core.Bool.{Bool, true, false, cond, true≢false}
-use mathlib.Core.List.{List, [], _∷_}
-use Prim.Native.Nat.{ℕ, suc, _+_, _*_, _<_}
+use mathlib.Core.Bool.{Bool, true, false}
+use mathlib.Core.List.{List, [], _∷_, map}
+use Prim.Native.Nat.{ℕ, suc, _+_, _<_}
 use native.Mathlib.Omega.{arith}
-use lib.ListN.{getD}
+use lib.Dec.{eqb}
+use lib.ListN.{length}
 use borrow.Author.Tests.{eqb-false}
-use Rattle.common.specs.Weather.{calm}
-use Rattle.common.specs.declared.weather.Weather.{Weather}
-use Rattle.common.specs.Loops.{sumOf}
-use Rattle.common.proofs.Loops.{sum-same}
+use Rattle.common.proofs.Limits.{by-test}
 use Rattle.forcing.specs.declared.list.Line.{Line}
-use Rattle.forcing.specs.List.{lineAt, weatherOf, reading, isInside, Inside}
-use Rattle.forcing.proofs.list.ReadLaws.{accepted-test, inside-accepted, test-inside, inside-test, weather-at}
-use Rattle.subbasin.specs.declared.record.Parameters.{Parameters}
 use Rattle.subbasin.specs.declared.record.SubBasin.{SubBasin}
 use Rattle.subbasin.proofs.record.RecordLaws.{blank-blank}
 use Rattle.subbasin.proofs.step.StepLaws.{Sound, sound-file}
@@ -21,180 +16,129 @@ use Rattle.basin.specs.declared.reach.Reach.{Reach}
 use Rattle.basin.specs.declared.state.Basin.{Basin}
 use Rattle.basin.specs.declared.file.Loaded.{Loaded}
 use Rattle.basin.specs.declared.step.Outcome.{Outcome}
-use Rattle.basin.specs.State.{subAt, reachAt, contentOf, Unchanged}
+use Rattle.basin.specs.declared.week.Ran.{Ran}
+use Rattle.basin.specs.State.{subAt, reachAt, contentOf}
 use Rattle.basin.specs.File.{fileN, fileM, fileSub, fileReach, fileBasin, loadCall, FileIn}
-use Rattle.basin.specs.Step.{rainVolume, taken, refusedStep, stepCall}
-use Rattle.basin.specs.Account.{Call, results, lastBasin, losses, rainOfLines, rains, readingOf, ruleAfter, Follows, AllFollow, Capacities, Demand3}
+use Rattle.basin.specs.Step.{stepCall, Judged}
+use Rattle.basin.specs.Calls.{Call, results, lastBasin}
+use Rattle.basin.specs.Week.{fits, weekCalls, after, together, untaken, weekTaken, weekCall}
+use Rattle.basin.specs.Account.{Entry, step, week, stepsOf, singles, handed, tells, lastHanded, reports, losses, ruleWeek, AllFollow, Capacities}
+use Rattle.basin.specs.Account.{Accounted, Demand3, EachFollows, StepsAccounted}
 use Rattle.basin.proofs.reach.ReachLaws.{ReachWords, blank-reach-blank}
 use Rattle.basin.proofs.file.LoadedLaws.{load-limits, load-holds-file, file-sub-words, file-reach-words, file-subs-length, file-reaches-length}
 use Rattle.basin.proofs.file.LoadedLaws.{file-sub, file-sub-past, file-reach, file-reach-past, file-sub-empty, file-reach-empty}
 use Rattle.basin.proofs.network.CapLaws.{held-empty}
-use Rattle.basin.proofs.step.CallLaws.{call-inside, call-outside}
-use Rattle.basin.proofs.step.StepLaws.{reading-weathers, step-balance, after-unchanged}
-use Rattle.basin.proofs.Sound.{capsIn, SoundBasin, sound-allowed, sound-basin-in, sound-shaped, sound-after}
+use Rattle.basin.proofs.step.CallLaws.{answers}
+use Rattle.basin.proofs.Sound.{capsIn, SoundBasin, sound-allowed}
+use Rattle.basin.proofs.Singles.{rains-of-file, one-call, sound-last, unchanged-last, lost, list-balances, last-append, lost-append, results-ruled, up-to-outside}
 
--- ---- rain
+-- ---- what the calls of a week come to together, of any basin
 
--- by a basin's own areas
-unfoldable rainOver : Basin → List Line → ℕ
-rainOver b lines = sumOf (λ i. subAt b i .fixed .area * weatherOf (lineAt lines i) .rain) (b .n)
+-- a refused step hands back its basin and reports zeros, so both kinds count alike
+module _ (w : Ran) (b : Basin) (lines : List Line) (count : ℕ) where
+  abbrev out : Outcome
+  out = stepCall b lines count
 
-unfoldable rainsOver : Basin → List Call → ℕ
-rainsOver b [] = 0
-rainsOver b (c ∷ cs) = cond (isInside (c .lines) (c .count) (b .n)) (rainOver b (c .lines)) 0 + rainsOver b cs
+  abbrev judged : Judged b lines count out
+  judged = answers b lines count refl .1
 
--- the reported rain is that of the lines' own numbers
-rain-reported : (b : Basin) → SoundBasin b → (lines : List Line) (count : ℕ) → Inside lines count (b .n)
-    → rainVolume b (reading lines count (b .n) .weather) ≡ rainOver b lines
-unfolding rainVolume rainOver
-rain-reported b h lines count i =
-    sum-same (λ k. subAt b k .fixed .area * getD (reading lines count (b .n) .weather) k calm .rain) (λ k. subAt b k .fixed .area * weatherOf (lineAt lines k) .rain) (b .n)
-    (λ k l.
-    ap (λ (w : Weather). subAt b k .fixed .area * w .rain) (weather-at lines count (b .n) (h .n-most) (inside-accepted lines count (b .n) i) k l))
+  after-basin : w .basin ≡ b → after w out .basin ≡ out .basin
+  unfolding after
+  after-basin e =
+      by-test (λ (v : Ran). v .basin ≡ out .basin) (eqb (out .number) 0) (λ t. refl)
+      (λ t. e ∙ sym (judged .refused (eqb-false (out .number) 0 t) .unchanged))
 
--- rain goes by the areas, which no step changes
-rain-same : (b b′ : Basin) → Unchanged b b′ → (lines : List Line) → rainOver b′ lines ≡ rainOver b lines
-unfolding rainOver
-rain-same b b′ u lines =
-    rw (u .n-same)
-    (sum-same (λ i. subAt b′ i .fixed .area * weatherOf (lineAt lines i) .rain) (λ i. subAt b i .fixed .area * weatherOf (lineAt lines i) .rain) (b .n)
-    (λ i l. ap (λ (p : Parameters). p .area * weatherOf (lineAt lines i) .rain) (u .fixed-same i)))
+  after-lost : after w out .report .evapotranspiration + after w out .report .outlet
+      ≡ w .report .evapotranspiration + w .report .outlet + (out .report .evapotranspiration + out .report .outlet)
+  unfolding after
+  after-lost =
+      by-test
+      (λ (v : Ran).
+      v .report .evapotranspiration + v .report .outlet
+      ≡ w .report .evapotranspiration + w .report .outlet + (out .report .evapotranspiration + out .report .outlet))
+      (eqb (out .number) 0) (λ t. omega arith) (λ t. rw (judged .refused (eqb-false (out .number) 0 t) .reports-zeros) (omega arith))
 
-rains-same : (b b′ : Basin) → Unchanged b b′ → (calls : List Call) → rainsOver b′ calls ≡ rainsOver b calls
-unfolding rainsOver
-rains-same b b′ u [] = refl
-rains-same b b′ u (c ∷ cs) = rw (rain-same b b′ u (c .lines), rains-same b b′ u cs, u .n-same)
+pub together-basin : (w : Ran) (b : Basin) (calls : List Call) → w .basin ≡ b → together w (results b calls) .basin ≡ lastBasin b calls
+unfolding together results lastBasin
+together-basin w b [] e = e
+together-basin w b (c ∷ cs) e =
+    let o : Outcome = stepCall b (c .lines) (c .count) in
+    together-basin (after w o) (o .basin) cs (after-basin w b (c .lines) (c .count) e)
 
--- the areas of the basin that the file's words give are the file's
-rain-of-file : (f : List ℕ) → FileIn f → (lines : List Line) → rainOver (fileBasin f) lines ≡ rainOfLines f lines
-unfolding rainOver rainOfLines fileBasin
-rain-of-file f h lines =
-    sum-same (λ i. subAt (fileBasin f) i .fixed .area * weatherOf (lineAt lines i) .rain) (λ i. fileSub f i .fixed .area * weatherOf (lineAt lines i) .rain) (fileN f)
-    (λ i l. ap (λ (s : SubBasin). s .fixed .area * weatherOf (lineAt lines i) .rain) (file-sub f i l (h .n-most)))
+pub together-lost : (w : Ran) (b : Basin) (calls : List Call)
+    → together w (results b calls) .report .evapotranspiration + together w (results b calls) .report .outlet
+    ≡ w .report .evapotranspiration + w .report .outlet + lost b calls
+unfolding together results losses
+together-lost w b [] = omega arith
+together-lost w b (c ∷ cs) =
+    let o : Outcome = stepCall b (c .lines) (c .count) in
+    omega (arith, together-lost (after w o) (o .basin) cs, after-lost w b (c .lines) (c .count))
 
-rains-of-file : (f : List ℕ) → FileIn f → (calls : List Call) → rainsOver (fileBasin f) calls ≡ rains f calls
-unfolding rainsOver rains fileBasin
-rains-of-file f h [] = refl
-rains-of-file f h (c ∷ cs) = rw (rain-of-file f h (c .lines), rains-of-file f h cs)
+-- ---- one entry
 
--- ---- one call
+module _ (b : Basin) (h : SoundBasin b) (lines : List Line) where
+  week-taken : fits (b .n) (length lines) ≡ true → weekCall b lines ≡ together (untaken b 0 0) (results b (stepsOf (b .n) (week lines)))
+  unfolding weekCall weekTaken stepsOf
+  week-taken t = rw (sound-allowed b h, t, up-to-outside b h (weekCalls (b .n) lines))
 
--- its outcome, where the forcing is inside the limits and where it is not; 9 is never met
-call-cases : (P : Outcome → Type 0) (b : Basin) → SoundBasin b → (lines : List Line) (count : ℕ)
-    → (Inside lines count (b .n) → P (taken b (reading lines count (b .n))))
-    → (isInside lines count (b .n) ≡ false → (reading lines count (b .n) .number ≡ 0 → ⊥)
-    → P (refusedStep b (reading lines count (b .n) .number) (reading lines count (b .n) .place)))
-    → P (stepCall b lines count)
-call-cases P b h lines count accepted refused = go (isInside lines count (b .n)) refl
+  week-refused : fits (b .n) (length lines) ≡ false → weekCall b lines ≡ untaken b 5 0
+  unfolding weekCall
+  week-refused t = rw (sound-allowed b h, t)
+
+  week-ruled : weekCall b lines ≡ ruleWeek b lines
+  unfolding ruleWeek
+  week-ruled =
+      by-test (λ (w : Ran). weekCall b lines ≡ w) (fits (b .n) (length lines))
+      (λ t. week-taken t ∙ ap (together (untaken b 0 0)) (results-ruled b h (stepsOf (b .n) (week lines)))) week-refused
+
+-- what was handed back last and reported together is that of these single steps
+record Stands (b : Basin) (calls : List Call) (last : Basin) (told : ℕ) : Type 0 where
+  last-is : last ≡ lastBasin b calls
+  lost-is : told ≡ lost b calls
+
+entry-stands : (b : Basin) → SoundBasin b → (e : Entry)
+    → Stands b (stepsOf (b .n) e) (handed b e) (tells b e .evapotranspiration + tells b e .outlet)
+unfolding stepsOf handed tells lastBasin results losses
+entry-stands b h (step c) = record { last-is = refl; lost-is = omega arith }
+entry-stands b h (week lines) = go (fits (b .n) (length lines)) refl
   where
-    go : (t : Bool) → isInside lines count (b .n) ≡ t → P (stepCall b lines count)
-    go true i = rw (call-inside b lines count (sound-allowed b h) i) (accepted (test-inside i))
-    go false i =
-        rw (call-outside b lines count (sound-allowed b h) i)
-        (refused i (eqb-false (reading lines count (b .n) .number) 0 (accepted-test lines count (b .n) ∙ i)))
+    go : (t : Bool) → fits (b .n) (length lines) ≡ t
+        → Stands b (stepsOf (b .n) (week lines)) (weekCall b lines .basin) (weekCall b lines .report .evapotranspiration + weekCall b lines .report .outlet)
+    go true t =
+        rw (week-taken b h lines t)
+        (record {
+          last-is = together-basin (untaken b 0 0) b (stepsOf (b .n) (week lines)) refl;
+          lost-is = omega (arith, together-lost (untaken b 0 0) b (stepsOf (b .n) (week lines)));
+        })
+    go false t = rw (week-refused b h lines t, t) (record { last-is = refl; lost-is = refl })
 
--- what one call leaves: a basin that 9 allows and that has the same words, the balance, and the rule's own outcome
-record Entry (b : Basin) (c : Call) (o : Outcome) : Type 0 where
-  follows : Follows b b c o
-  kept : SoundBasin (o .basin)
-  unchanged : Unchanged b (o .basin)
-  balance : contentOf (o .basin) + (o .report .evapotranspiration + o .report .outlet)
-      ≡ contentOf b + cond (isInside (c .lines) (c .count) (b .n)) (rainOver b (c .lines)) 0
-  ruled : ruleAfter b c ≡ o .basin
+-- ---- a list of entries
 
-unchanged-refl : (b : Basin) → Unchanged b b
-unchanged-refl b =
+list-stands : (n : ℕ) (b : Basin) → b .n ≡ n → SoundBasin b → (entries : List Entry)
+    → Stands b (singles n entries) (lastHanded b entries) (losses (reports b entries))
+unfolding singles lastHanded reports losses
+list-stands n b same h [] = unfold lastBasin results in record { last-is = refl; lost-is = refl }
+list-stands n b same h (e ∷ es) =
+    let steps = stepsOf n e in
+    let others = singles n es in
+    let reached : Basin = lastBasin b steps in
+    let one : Stands b steps (handed b e) (tells b e .evapotranspiration + tells b e .outlet) = rw (← same) (entry-stands b h e) in
+    let next = list-stands n reached (unchanged-last b h steps .n-same ∙ same) (sound-last b h steps) es in
     record {
-      n-same = refl;
-      m-same = refl;
-      fixed-same = λ i. refl;
-      words-same = λ j. record { c0-same = refl; c1-same = refl; next-same = refl };
+      last-is = ap (λ (x : Basin). lastHanded x es) (one .last-is) ∙ next .last-is ∙ sym (last-append b steps others);
+      lost-is =
+          omega (arith, one .lost-is, next .lost-is, ap (λ (x : Basin). losses (reports x es)) (one .last-is), lost-append b steps others);
     }
 
-unchanged-trans : {a b c : Basin} → Unchanged a b → Unchanged b c → Unchanged a c
-unchanged-trans u v =
-    record {
-      n-same = v .n-same ∙ u .n-same;
-      m-same = v .m-same ∙ u .m-same;
-      fixed-same = λ i. v .fixed-same i ∙ u .fixed-same i;
-      words-same =
-          λ j.
-          record {
-            c0-same = v .words-same j .c0-same ∙ u .words-same j .c0-same;
-            c1-same = v .words-same j .c1-same ∙ u .words-same j .c1-same;
-            next-same = v .words-same j .next-same ∙ u .words-same j .next-same;
-          };
-    }
-
-entry-accepted : (b : Basin) → SoundBasin b → (c : Call) → Inside (c .lines) (c .count) (b .n) → Entry b c (taken b (readingOf (b .n) c))
-unfolding ruleAfter taken
-entry-accepted b h c i =
-    let ws = reading (c .lines) (c .count) (b .n) .weather in
-    let k = reading-weathers (c .lines) (c .count) (b .n) in
-    record {
-      follows =
-          record {
-            accepted = (λ e. inside-test i, λ t. refl);
-            as-ruled = λ t. refl;
-            refused = λ t. absurd (true≢false (sym (inside-test i) ∙ t));
-            told = λ t. absurd (true≢false (sym (inside-test i) ∙ t));
-          };
-      kept = sound-after b ws h k;
-      unchanged = after-unchanged b ws (sound-basin-in b h) (sound-shaped b h) k;
-      balance =
-          rw (inside-test i) (omega (arith, step-balance b ws (sound-basin-in b h) (sound-shaped b h) k, rain-reported b h (c .lines) (c .count) i));
-      ruled = rw (inside-test i);
-    }
-
-entry-refused : (b : Basin) → SoundBasin b → (c : Call) → isInside (c .lines) (c .count) (b .n) ≡ false → (readingOf (b .n) c .number ≡ 0 → ⊥)
-    → Entry b c (refusedStep b (readingOf (b .n) c .number) (readingOf (b .n) c .place))
-unfolding ruleAfter
-entry-refused b h c t n =
-    record {
-      follows =
-          record {
-            accepted = (λ e. absurd (n e), λ u. absurd (true≢false (sym u ∙ t)));
-            as-ruled = λ u. absurd (true≢false (sym u ∙ t));
-            refused = λ u. record { unchanged = refl; reports-zeros = refl };
-            told = λ u. (refl, refl);
-          };
-      kept = h;
-      unchanged = unchanged-refl b;
-      balance = rw t (omega arith);
-      ruled = rw t;
-    }
-
-entry : (b : Basin) → SoundBasin b → (c : Call) → Entry b c (stepCall b (c .lines) (c .count))
-entry b h c = call-cases (Entry b c) b h (c .lines) (c .count) (entry-accepted b h c) (entry-refused b h c)
-
--- ---- a list of calls
-
-sound-last : (b : Basin) → SoundBasin b → (calls : List Call) → SoundBasin (lastBasin b calls)
-unfolding lastBasin
-sound-last b h [] = h
-sound-last b h (c ∷ cs) = sound-last (stepCall b (c .lines) (c .count) .basin) (entry b h c .kept) cs
-
-unchanged-last : (b : Basin) → SoundBasin b → (calls : List Call) → Unchanged b (lastBasin b calls)
-unfolding lastBasin
-unchanged-last b h [] = unchanged-refl b
-unchanged-last b h (c ∷ cs) =
-    let t = entry b h c in
-    unchanged-trans (t .unchanged) (unchanged-last (stepCall b (c .lines) (c .count) .basin) (t .kept) cs)
-
-list-balances : (b : Basin) → SoundBasin b → (calls : List Call) → contentOf (lastBasin b calls) + losses (results b calls) ≡ contentOf b + rainsOver b calls
-unfolding lastBasin results losses rainsOver
-list-balances b h [] = refl
-list-balances b h (c ∷ cs) =
-    let t = entry b h c in
-    let after : Basin = stepCall b (c .lines) (c .count) .basin in
-    omega (arith, t .balance, list-balances after (t .kept) cs, rains-same b after (t .unchanged) cs)
-
-list-follows : (b : Basin) → SoundBasin b → (calls : List Call) → AllFollow b b calls (results b calls)
-unfolding results
+list-follows : (b : Basin) → SoundBasin b → (entries : List Entry) → AllFollow b b entries
+unfolding handed
 list-follows b h [] = tt
-list-follows b h (c ∷ cs) =
-    let t = entry b h c in
-    (t .follows, rw (t .ruled) (list-follows (stepCall b (c .lines) (c .count) .basin) (t .kept) cs))
+list-follows b h (step c ∷ es) =
+    let t = one-call b h c in
+    (t .follows, rw (t .ruled) (list-follows (stepCall b (c .lines) (c .count) .basin) (t .kept) es))
+list-follows b h (week lines ∷ es) =
+    let kept : SoundBasin (weekCall b lines .basin) = rw (entry-stands b h (week lines) .last-is) (sound-last b h (stepsOf (b .n) (week lines))) in
+    (week-ruled b h lines, rw (← (week-ruled b h lines)) (list-follows (weekCall b lines .basin) kept es))
 
 capacities-of : (file now : SubBasin) → now .fixed ≡ file .fixed → Sound now → Capacities file now
 capacities-of file now e h =
@@ -230,6 +174,12 @@ file-sound f h =
           (λ j l. ap (λ (r : Reach). r .content) (reach j l) ∙ file-reach-empty f (fileN f) j);
     }
 
+-- a list of entries from the file's basin, as the single steps that it stands for
+file-stands : (f : List ℕ) → FileIn f → (entries : List Entry)
+    → Stands (fileBasin f) (singles (fileN f) entries) (lastHanded (fileBasin f) entries) (losses (reports (fileBasin f) entries))
+unfolding fileBasin
+file-stands f limits entries = list-stands (fileN f) (fileBasin f) refl (file-sound f limits) entries
+
 list-capacities : (f : List ℕ) → FileIn f → (calls : List Call) (i : ℕ) → i < fileN f → Capacities (fileSub f i) (subAt (lastBasin (fileBasin f) calls) i)
 unfolding fileBasin
 list-capacities f limits calls i l =
@@ -241,14 +191,50 @@ list-capacities f limits calls i l =
 
 -- demand 3, of any file and the answer of its load
 pub demand-3 : (f : List ℕ) {loaded : Loaded} → loaded ≡ loadCall f → Demand3 f loaded
-demand-3 f {loaded} e z calls =
+demand-3 f {loaded} e z entries =
     let accepted : loadCall f .number ≡ 0 = sym (ap (λ (l : Loaded). l .number) e) ∙ z in
     let limits = load-limits f accepted in
     let h = file-sound f limits in
+    let calls = singles (fileN f) entries in
+    let stands = file-stands f limits entries in
     rw (e, load-holds-file f accepted)
     (record {
-      balance = list-balances (fileBasin f) h calls ∙ ap (λ (rain : ℕ). contentOf (fileBasin f) + rain) (rains-of-file f limits calls);
-      throughout = unchanged-last (fileBasin f) h calls;
-      capacities = list-capacities f limits calls;
-      follows = list-follows (fileBasin f) h calls;
+      balance =
+          rw (stands .last-is, stands .lost-is)
+          (list-balances (fileBasin f) h calls ∙ ap (λ (rain : ℕ). contentOf (fileBasin f) + rain) (rains-of-file f limits calls));
+      throughout = rw (stands .last-is) (unchanged-last (fileBasin f) h calls);
+      capacities = λ i l. rw (stands .last-is) (list-capacities f limits calls i l);
+      follows = list-follows (fileBasin f) h entries;
     })
+
+-- ---- single steps alone
+
+singles-of-steps : (n : ℕ) (calls : List Call) → singles n (map step calls) ≡ calls
+unfolding singles stepsOf
+singles-of-steps n [] = refl
+singles-of-steps n (c ∷ cs) = rw (singles-of-steps n cs)
+
+last-of-steps : (b : Basin) (calls : List Call) → lastHanded b (map step calls) ≡ lastBasin b calls
+unfolding lastHanded handed lastBasin
+last-of-steps b [] = refl
+last-of-steps b (c ∷ cs) = last-of-steps (stepCall b (c .lines) (c .count) .basin) cs
+
+reports-of-steps : (b : Basin) (calls : List Call) → reports b (map step calls) ≡ map (λ (o : Outcome). o .report) (results b calls)
+unfolding reports handed tells results
+reports-of-steps b [] = refl
+reports-of-steps b (c ∷ cs) = rw (reports-of-steps (stepCall b (c .lines) (c .count) .basin) cs)
+
+each-follows : (rule got : Basin) (calls : List Call) → AllFollow rule got (map step calls) → EachFollows rule got calls (results got calls)
+unfolding handed results
+each-follows rule got [] h = tt
+each-follows rule got (c ∷ cs) h = (h .0, each-follows _ (stepCall got (c .lines) (c .count) .basin) cs (h .1))
+
+-- the account of single steps follows from the statement at once
+pub steps-account : (f : List ℕ) (b : Basin) (calls : List Call) → Accounted f b (map step calls) → StepsAccounted f b calls
+steps-account f b calls h =
+    record {
+      balance = rw (← (last-of-steps b calls), ← (reports-of-steps b calls)) (h .balance ∙ rw (singles-of-steps (fileN f) calls));
+      throughout = rw (← (last-of-steps b calls)) (h .throughout);
+      capacities = λ i l. rw (← (last-of-steps b calls)) (h .capacities i l);
+      follows = each-follows (fileBasin f) b calls (h .follows);
+    }

@@ -1,7 +1,7 @@
 -- Case B: two sub-basins, the first above a reach, and no two shares alike. From demand 3 follow its figures, which the second model gave. Assumes
 -- nothing.
 use mathlib.Core.Path.{_≡_, refl, ap, _∙_}
-use mathlib.Core.List.{List, [], _∷_}
+use mathlib.Core.List.{List, [], _∷_, map}
 use Prim.Native.Nat.{ℕ, _+_}
 use native.Mathlib.Omega.{arith}
 use lib.ListN.{replicate}
@@ -28,14 +28,21 @@ use Rattle.subbasin.specs.FreeWater.{ms, level, keep, parted}
 use Rattle.subbasin.specs.Step.{stepped}
 use Rattle.basin.specs.declared.state.Basin.{Basin}
 use Rattle.basin.specs.declared.step.Outcome.{Outcome}
+use Rattle.basin.specs.declared.week.Ran.{Ran}
 use Rattle.basin.specs.Reach.{blankReach}
 use Rattle.basin.specs.State.{contentOf}
 use Rattle.basin.specs.File.{fileN, fileSub, fileReach, fileBasin, subWords, reachesWords, loadWords, loadLength, loadCounts, loadCall}
 use Rattle.basin.specs.Network.{send, flows, reachesAfter}
 use Rattle.basin.specs.Step.{sentBy, basinAfter, rainVolume, lossVolume, outletVolume, taken, stepCall}
-use Rattle.basin.specs.Account.{Call, results, losses, rainOfLines, rains, Accounted}
-use Rattle.basin.specs.Cases.{words-b1, words-b2, file-b, call-b1, call-b2, call-b3, call-b4, calls-b, reported, Says, Always, Gives, figures-b}
-use Rattle.basin.proofs.CaseSteps.{accepted-next, refused-next, held-to, said, of-load}
+use Rattle.basin.specs.Calls.{results}
+use Rattle.basin.specs.Week.{fits, callsOf, weekCalls, after, together, weekCall}
+use Rattle.basin.specs.Account.{Entry, step, week, upToOutside, stepsOf, singles, handed, tells, reports, losses, rainOfLines, rains}
+use Rattle.basin.specs.Account.{ruleResults, ruleWeek, Accounted, StepsAccounted}
+use Rattle.basin.specs.Cases.{words-b1, words-b2, file-b, call-b1, call-b2, call-b3, call-b4, calls-b, week-b1, week-b2, week-b3, entries-b}
+use Rattle.basin.specs.Cases.{reported, weeks, Says, SaysMixed, Always, Gives, figures-b}
+use Rattle.basin.proofs.Account.{steps-account}
+use Rattle.basin.proofs.CaseSteps.{inside-known, outside-known, ruled-accepted, ruled-refused, accepted-next, refused-next, week-next}
+use Rattle.basin.proofs.CaseSteps.{week-is, week-outside, held-to, said-mixed, said, of-load}
 
 -- ---- the basin, and its states after the accepted calls
 
@@ -210,7 +217,7 @@ taken-4 : taken (basin-of sub-1-c sub-2-c 3384) forcing-b4 ≡ outcome-4
 unfolding taken basinAfter sentBy rainVolume lossVolume outletVolume contentOf run filled sumOf send flows reachesAfter water sum outflow content
 taken-4 = rw (step-1-d, step-2-d)
 
-results-b : (b : Basin) → Accounted file-b b calls-b → results b calls-b ≡ outcome-1 ∷ outcome-2 ∷ outcome-3 ∷ outcome-4 ∷ []
+results-b : (b : Basin) → StepsAccounted file-b b calls-b → results b calls-b ≡ outcome-1 ∷ outcome-2 ∷ outcome-3 ∷ outcome-4 ∷ []
 unfolding results
 results-b b h =
     let o1 : Outcome = stepCall b (call-b1 .lines) 2 in
@@ -230,6 +237,67 @@ results-b b h =
     ∙ ap (λ (o : Outcome). outcome-1 ∷ outcome-2 ∷ o ∷ o4 ∷ []) (third .0)
     ∙ ap (λ (o : Outcome). outcome-1 ∷ outcome-2 ∷ outcome-3 ∷ o ∷ []) (fourth .0)
 
+-- ---- the same as weeks: one that the missing line stops, one of three lines, and one that is taken whole
+
+steps-1 : stepsOf 2 (week week-b1) ≡ call-b1 ∷ call-b2 ∷ []
+unfolding stepsOf fits weekCalls callsOf upToOutside filled
+steps-1 = rw (inside-known 2 call-b1 forcing-b1 reading-b1 refl, outside-known 2 call-b2 6 2 reading-b2 refl)
+
+steps-2 : stepsOf 2 (week week-b2) ≡ []
+unfolding stepsOf fits
+steps-2 = refl
+
+steps-3 : stepsOf 2 (week week-b3) ≡ call-b3 ∷ call-b4 ∷ []
+unfolding stepsOf fits weekCalls callsOf upToOutside filled
+steps-3 = rw (inside-known 2 call-b3 forcing-b3 reading-b3 refl, inside-known 2 call-b4 forcing-b4 reading-b4 refl)
+
+singles-b : singles (fileN file-b) entries-b ≡ calls-b
+unfolding singles
+singles-b = rw (file-n-b, steps-1, steps-2, steps-3)
+
+abbrev ran-1 : Ran
+ran-1 = record { number = 6; place = 2; basin = outcome-1 .basin; count = 1; report = reported 368500 97690 0 773310 0 }
+
+abbrev ran-2 : Ran
+ran-2 = record { number = 5; place = 0; basin = outcome-1 .basin; count = 0; report = reported 0 0 0 0 0 }
+
+abbrev ran-3 : Ran
+ran-3 = record { number = 0; place = 0; basin = outcome-4 .basin; count = 2; report = reported 1060250 145744 110144 1577672 2 }
+
+ruled-1 : ruleWeek (basin-of sub-1 sub-2 0) week-b1 ≡ ran-1
+unfolding fits together after ruleResults
+ruled-1 =
+    week-is (basin-of sub-1 sub-2 0) week-b1 (call-b1 ∷ call-b2 ∷ []) (outcome-1 ∷ outcome-2 ∷ []) refl steps-1
+    (ruled-accepted (basin-of sub-1 sub-2 0) call-b1 forcing-b1 reading-b1 refl outcome-1 taken-1 (call-b2 ∷ []) (outcome-2 ∷ [])
+    (ruled-refused (outcome-1 .basin) call-b2 6 2 reading-b2 refl [] [] refl))
+
+ruled-2 : ruleWeek (outcome-1 .basin) week-b2 ≡ ran-2
+unfolding fits
+ruled-2 = week-outside (outcome-1 .basin) week-b2 refl
+
+ruled-3 : ruleWeek (outcome-1 .basin) week-b3 ≡ ran-3
+unfolding fits together after ruleResults
+ruled-3 =
+    week-is (outcome-1 .basin) week-b3 (call-b3 ∷ call-b4 ∷ []) (outcome-3 ∷ outcome-4 ∷ []) refl steps-3
+    (ruled-accepted (outcome-1 .basin) call-b3 forcing-b3 reading-b3 refl outcome-3 taken-3 (call-b4 ∷ []) (outcome-4 ∷ [])
+    (ruled-accepted (outcome-3 .basin) call-b4 forcing-b4 reading-b4 refl outcome-4 taken-4 [] [] refl))
+
+weeks-b : (b : Basin) → Accounted file-b b entries-b → weeks b entries-b ≡ ran-1 ∷ ran-2 ∷ ran-3 ∷ []
+unfolding handed weeks
+weeks-b b h =
+    let b1 = outcome-1 .basin in
+    let first = week-next (basin-of sub-1 sub-2 0) b week-b1 (week week-b2 ∷ week week-b3 ∷ []) (rw (← file-basin-b) (h .follows)) ran-1 ruled-1 in
+    let second = week-next b1 b1 week-b2 (week week-b3 ∷ []) (first .1) ran-2 ruled-2 in
+    let third = week-next b1 b1 week-b3 [] (second .1) ran-3 ruled-3 in
+    ap (λ (w : Ran). w ∷ weekCall (w .basin) week-b2 ∷ weekCall (weekCall (w .basin) week-b2 .basin) week-b3 ∷ []) (first .0)
+    ∙ ap (λ (w : Ran). ran-1 ∷ w ∷ weekCall (w .basin) week-b3 ∷ []) (second .0)
+    ∙ ap (λ (w : Ran). ran-1 ∷ ran-2 ∷ w ∷ []) (third .0)
+
+-- each entry is a week, and tells its report
+told-b : (b : Basin) → Accounted file-b b entries-b → reports b entries-b ≡ figures-b .told
+unfolding reports tells handed weeks
+told-b b h = ap (map (λ (w : Ran). w .report)) (weeks-b b h)
+
 -- ---- the figures
 
 started-b : contentOf (fileBasin file-b) ≡ 502500
@@ -240,26 +308,30 @@ rained-b : rains file-b calls-b ≡ 1428750
 unfolding rains rainOfLines isInside lineInside fromZeroTo every sumOf weatherOf ofBits depthOf nearest numerator denominator fileSub filled wordAt
 rained-b = refl
 
-lost-b : losses (outcome-1 ∷ outcome-2 ∷ outcome-3 ∷ outcome-4 ∷ []) ≡ 353578
-unfolding losses
-lost-b = refl
-
 -- 1,577,672 + 353,578 = 502,500 + 1,428,750
-figures-said : (b : Basin) → Accounted file-b b calls-b → Says file-b calls-b figures-b b
+figures-said : (b : Basin) → StepsAccounted file-b b calls-b → Says file-b calls-b figures-b b
+unfolding losses
 figures-said b h =
-    said file-b calls-b b h figures-b (outcome-1 ∷ outcome-2 ∷ outcome-3 ∷ outcome-4 ∷ []) (results-b b h) refl started-b rained-b lost-b refl refl refl
+    said file-b calls-b b h figures-b (outcome-1 ∷ outcome-2 ∷ outcome-3 ∷ outcome-4 ∷ []) (results-b b h) refl started-b rained-b refl refl refl refl
 
-always-b : (b : Basin) (calls : List Call) → Accounted file-b b calls → Always file-b figures-b b calls
-always-b b calls h =
+mixed-said : (b : Basin) → Accounted file-b b entries-b → SaysMixed file-b entries-b figures-b b
+unfolding losses
+mixed-said b h =
+    said-mixed file-b entries-b b h figures-b calls-b (ran-1 ∷ ran-2 ∷ ran-3 ∷ []) refl started-b singles-b rained-b (told-b b h) refl (weeks-b b h) refl
+
+always-b : (b : Basin) (entries : List Entry) → Accounted file-b b entries → Always file-b figures-b b entries
+always-b b entries h =
     record {
-      balance-is = h .balance ∙ ap (λ (k : ℕ). k + rains file-b calls) started-b;
+      balance-is = h .balance ∙ ap (λ (k : ℕ). k + rains file-b (singles (fileN file-b) entries)) started-b;
       within-bounds = (
-        held-to file-b calls b h 0 (omega (arith, file-n-b)) sub-1 file-sub-1 (rw file-basin-b),
-        (held-to file-b calls b h 1 (omega (arith, file-n-b)) sub-2 file-sub-2 (rw file-basin-b), tt),
+        held-to file-b entries b h 0 (omega (arith, file-n-b)) sub-1 file-sub-1 (rw file-basin-b),
+        (held-to file-b entries b h 1 (omega (arith, file-n-b)) sub-2 file-sub-2 (rw file-basin-b), tt),
       );
     }
 
-pub account-b : Gives file-b calls-b figures-b
+pub account-b : Gives file-b calls-b entries-b figures-b
 account-b =
-    of-load file-b calls-b figures-b load-b
-    (λ loaded d z. (figures-said (loaded .basin) (d z calls-b), λ calls. always-b (loaded .basin) calls (d z calls)))
+    of-load file-b calls-b entries-b figures-b load-b
+    (λ loaded d z.
+    let b = loaded .basin in
+    (figures-said b (steps-account file-b b calls-b (d z (map step calls-b))), (mixed-said b (d z entries-b), λ entries. always-b b entries (d z entries))))

@@ -1,7 +1,7 @@
 -- Case A of document 01: its file is accepted, and from demand 3 follow the lines that the document prints and the figures of the account. So
 -- demand 3 is about something. Then the table of all proved cases. Assumes nothing.
 use mathlib.Core.Path.{_≡_, refl, ap, _∙_}
-use mathlib.Core.List.{List, [], _∷_, _++_}
+use mathlib.Core.List.{List, [], _∷_, _++_, map}
 use Prim.Native.Nat.{ℕ, _+_}
 use native.Mathlib.Omega.{arith}
 use lib.ListN.{replicate}
@@ -31,14 +31,21 @@ use Rattle.subbasin.proofs.Cases.{step-a, step-cases}
 use Rattle.basin.specs.declared.state.Basin.{Basin}
 use Rattle.basin.specs.declared.step.Report.{Report}
 use Rattle.basin.specs.declared.step.Outcome.{Outcome}
+use Rattle.basin.specs.declared.week.Ran.{Ran}
 use Rattle.basin.specs.Reach.{blankReach}
 use Rattle.basin.specs.State.{contentOf}
 use Rattle.basin.specs.File.{fileN, fileSub, fileReach, fileBasin, subWords, reachesWords, loadWords, loadLength, loadCounts, loadCall}
 use Rattle.basin.specs.Network.{send, flows, reachesAfter}
 use Rattle.basin.specs.Step.{sentBy, basinAfter, rainVolume, lossVolume, outletVolume, taken, stepCall}
-use Rattle.basin.specs.Account.{Call, results, losses, rainOfLines, rains, Accounted}
-use Rattle.basin.specs.Cases.{file-a, call-1, call-2, call-3, calls-a, depthCases, outcomeCases, provedCases, reported, Says, Always, Gives, figures-a}
-use Rattle.basin.proofs.CaseSteps.{accepted-next, refused-next, held-to, said, of-load}
+use Rattle.basin.specs.Calls.{Call, results}
+use Rattle.basin.specs.Week.{fits, callsOf, weekCalls, after, together}
+use Rattle.basin.specs.Account.{Entry, step, week, upToOutside, stepsOf, singles, handed, tells, reports, losses, rainOfLines, rains}
+use Rattle.basin.specs.Account.{ruleResults, ruleWeek, Accounted, StepsAccounted}
+use Rattle.basin.specs.Cases.{file-a, call-1, call-2, call-3, calls-a, week-a, entries-a, depthCases, outcomeCases, provedCases, reported}
+use Rattle.basin.specs.Cases.{weeks, Says, SaysMixed, Always, Gives, figures-a}
+use Rattle.basin.proofs.Account.{steps-account}
+use Rattle.basin.proofs.CaseSteps.{inside-known, outside-known, ruled-accepted, ruled-refused, accepted-next, refused-next, step-next, week-next}
+use Rattle.basin.proofs.CaseSteps.{week-is, held-to, said-mixed, said, of-load}
 
 -- the sub-basin after the first step, and after the third
 abbrev after-1 : SubBasin
@@ -137,7 +144,7 @@ taken-3 : taken (basin-of after-1) forcing-3 ≡ outcome-3
 unfolding taken basinAfter sentBy rainVolume lossVolume outletVolume contentOf run filled sumOf send flows reachesAfter water sum
 taken-3 = rw step-3
 
-results-a : (b : Basin) → Accounted file-a b calls-a → results b calls-a ≡ outcome-1 ∷ outcome-2 ∷ outcome-3 ∷ []
+results-a : (b : Basin) → StepsAccounted file-a b calls-a → results b calls-a ≡ outcome-1 ∷ outcome-2 ∷ outcome-3 ∷ []
 unfolding results
 results-a b h =
     let o1 : Outcome = stepCall b (call-1 .lines) 1 in
@@ -153,6 +160,36 @@ results-a b h =
     ∙ ap (λ (o : Outcome). outcome-1 ∷ o ∷ o3 ∷ []) (second .0)
     ∙ ap (λ (o : Outcome). outcome-1 ∷ outcome-2 ∷ o ∷ []) (third .0)
 
+-- ---- the week, which the missing line stops, and the single step after it
+
+steps-a : stepsOf 1 (week week-a) ≡ call-1 ∷ call-2 ∷ []
+unfolding stepsOf fits weekCalls callsOf upToOutside filled
+steps-a = rw (inside-known 1 call-1 forcing-1 reading-1 refl, outside-known 1 call-2 6 1 reading-2 refl)
+
+singles-a : singles (fileN file-a) entries-a ≡ calls-a
+unfolding singles stepsOf
+singles-a = rw file-n-a (ap (λ (cs : List Call). cs ++ (call-3 ∷ [])) steps-a)
+
+abbrev ran-a : Ran
+ran-a = record { number = 6; place = 1; basin = basin-of after-1; count = 1; report = reported 135000 0 26666 108334 0 }
+
+ruled-a : ruleWeek (basin-of case-a) week-a ≡ ran-a
+unfolding fits together after ruleResults
+ruled-a =
+    week-is (basin-of case-a) week-a (call-1 ∷ call-2 ∷ []) (outcome-1 ∷ outcome-2 ∷ []) refl steps-a
+    (ruled-accepted (basin-of case-a) call-1 forcing-1 reading-1 refl outcome-1 taken-1 (call-2 ∷ []) (outcome-2 ∷ [])
+    (ruled-refused (basin-of after-1) call-2 6 1 reading-2 refl [] [] refl))
+
+told-a : (b : Basin) → Accounted file-a b entries-a → (reports b entries-a ≡ figures-a .told) × (weeks b entries-a ≡ ran-a ∷ [])
+unfolding reports tells handed weeks
+told-a b h =
+    let first = week-next (basin-of case-a) b week-a (step call-3 ∷ []) (rw (← file-basin-a) (h .follows)) ran-a ruled-a in
+    let second = step-next (basin-of after-1) (basin-of after-1) call-3 [] (first .1) forcing-3 reading-3 refl outcome-3 taken-3 in (
+      ap (λ (w : Ran). w .report ∷ stepCall (w .basin) (call-3 .lines) 1 .report ∷ []) (first .0)
+          ∙ ap (λ (o : Outcome). ran-a .report ∷ o .report ∷ []) (second .0),
+      ap (λ (w : Ran). w ∷ []) (first .0),
+    )
+
 -- ---- the figures
 
 started-a : contentOf (fileBasin file-a) ≡ 0
@@ -163,26 +200,30 @@ rained-a : rains file-a calls-a ≡ 135000
 unfolding rains rainOfLines isInside lineInside fromZeroTo every sumOf weatherOf ofBits depthOf nearest numerator denominator fileSub filled wordAt
 rained-a = refl
 
-lost-a : losses (outcome-1 ∷ outcome-2 ∷ outcome-3 ∷ []) ≡ 37776
-unfolding losses
-lost-a = refl
-
 -- 97,224 + 37,776 = 0 + 135,000
-figures-said : (b : Basin) → Accounted file-a b calls-a → Says file-a calls-a figures-a b
+figures-said : (b : Basin) → StepsAccounted file-a b calls-a → Says file-a calls-a figures-a b
+unfolding losses
 figures-said b h =
-    said file-a calls-a b h figures-a (outcome-1 ∷ outcome-2 ∷ outcome-3 ∷ []) (results-a b h) refl started-a rained-a lost-a refl refl refl
+    said file-a calls-a b h figures-a (outcome-1 ∷ outcome-2 ∷ outcome-3 ∷ []) (results-a b h) refl started-a rained-a refl refl refl refl
 
-always-a : (b : Basin) (calls : List Call) → Accounted file-a b calls → Always file-a figures-a b calls
-always-a b calls h =
+mixed-said : (b : Basin) → Accounted file-a b entries-a → SaysMixed file-a entries-a figures-a b
+unfolding losses
+mixed-said b h =
+    said-mixed file-a entries-a b h figures-a calls-a (ran-a ∷ []) refl started-a singles-a rained-a (told-a b h .0) refl (told-a b h .1) refl
+
+always-a : (b : Basin) (entries : List Entry) → Accounted file-a b entries → Always file-a figures-a b entries
+always-a b entries h =
     record {
-      balance-is = h .balance ∙ ap (λ (k : ℕ). k + rains file-a calls) started-a;
-      within-bounds = (held-to file-a calls b h 0 (omega (arith, file-n-a)) case-a file-sub-a (rw file-basin-a), tt);
+      balance-is = h .balance ∙ ap (λ (k : ℕ). k + rains file-a (singles (fileN file-a) entries)) started-a;
+      within-bounds = (held-to file-a entries b h 0 (omega (arith, file-n-a)) case-a file-sub-a (rw file-basin-a), tt);
     }
 
-pub account-a : Gives file-a calls-a figures-a
+pub account-a : Gives file-a calls-a entries-a figures-a
 account-a =
-    of-load file-a calls-a figures-a load-a
-    (λ loaded d z. (figures-said (loaded .basin) (d z calls-a), λ calls. always-a (loaded .basin) calls (d z calls)))
+    of-load file-a calls-a entries-a figures-a load-a
+    (λ loaded d z.
+    let b = loaded .basin in
+    (figures-said b (steps-account file-a b calls-a (d z (map step calls-a))), (mixed-said b (d z entries-a), λ entries. always-a b entries (d z entries))))
 
 -- ---- the table of document 01's proved cases
 

@@ -16,12 +16,12 @@ use Rattle.basin.specs.Reach.{isBlankReach}
 use Rattle.basin.specs.State.{mostSubs, mostReaches, subAt, reachAt, SameWords, Unchanged}
 use Rattle.basin.specs.Limits.{basinIn}
 use Rattle.basin.specs.Step.{stepOf, sentBy, basinAfter}
-use Rattle.basin.specs.Workers.{Weathers}
+use Rattle.basin.specs.Workers.{Weathers, Shaped}
 use Rattle.basin.proofs.reach.ReachLaws.{ReachWords}
 use Rattle.basin.proofs.limits.LimitsLaws.{BasinIn, basin-in}
 use Rattle.basin.proofs.network.NetworkLaws.{after-past}
 use Rattle.basin.proofs.network.CapLaws.{capsOf, caps-same, caps-most, sent-below, HeldDown, held-after, held-content}
-use Rattle.basin.proofs.step.StepLaws.{Shaped, sub-after, sub-past, after-shaped, after-unchanged}
+use Rattle.basin.proofs.step.StepLaws.{sub-after, sub-past, after-shaped, after-unchanged}
 
 -- the caps of what can come to the reaches, from where the sub-basins send
 abbrev pub capsIn : Basin → List ℕ

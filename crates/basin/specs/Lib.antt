@@ -5,6 +5,8 @@ pub mod Limits
 pub mod File
 pub mod Network
 pub mod Step
+pub mod Calls
+pub mod Week
 pub mod Workers
 pub mod Account
 pub mod Cases

@@ -6,3 +6,4 @@ mod network;
 pub mod reach;
 pub mod state;
 pub mod step;
+pub mod week;

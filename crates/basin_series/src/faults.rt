@@ -1,8 +1,8 @@
 // Steps that go astray: a count that isn't N, bad lines, and a basin that is outside its limits.
-use crate::places;
 use basin::state::Basin;
+use basin_testing::places;
+use basin_testing::weather::bad;
 use forcing::list::Line;
-use forcing::list::Reading;
 use testing::chance::next;
 
 // What a step takes.
@@ -64,24 +64,4 @@ fn bad_lines(given: [Line; 32], n: u64, fault: u64, x: u64, y: u64) -> [Line; 32
     lines[first] = bad(line, fault);
     lines[second] = bad(line, y / 64 % 9);
     lines
-}
-
-fn bad(line: Line, fault: u64) -> Line {
-    let rain = line.rain;
-    let pan = line.pan;
-    match fault {
-        0 => with(Reading::Missing, pan),
-        1 => with(Reading::Measured(0.0 / 0.0), pan),
-        2 => with(Reading::Estimated(1.0 / 0.0), pan),
-        3 => with(Reading::Measured(-0.5), pan),
-        4 => with(Reading::Estimated(1000.0625), pan),
-        5 => with(rain, 0.0 / 0.0),
-        6 => with(rain, -1.0 / 0.0),
-        7 => with(rain, -0.25),
-        _ => with(rain, 100.0625),
-    }
-}
-
-fn with(rain: Reading, pan: f32) -> Line {
-    Line { rain, pan }
 }

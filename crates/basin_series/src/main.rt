@@ -2,7 +2,6 @@
 // every shape, with refused steps among them. What it must print comes from the second model: `model expect basin_series`.
 mod faults;
 mod limits;
-mod places;
 mod plan;
 mod series;
 mod weather;

@@ -1,7 +1,8 @@
 // The series that are run: a line for each, with its shape, its choice of words, N, M and its checksum.
-use crate::places;
 use crate::series;
 use crate::series::Ran;
+use basin_testing::places;
+use basin_testing::plans;
 use testing::chance::Drawn;
 use testing::choices::Choice;
 use testing::drafts::Plan;
@@ -23,14 +24,14 @@ pub fn rows() {
 fn row(k: u64, x: u64) -> u64 {
     let size = (k / 20 % 6) as usize;
     let plan = Plan {
-        choice: choice(k / 4 % 5),
-        shape: shape(k % 4),
+        choice: plans::choice(k / 4 % 5),
+        shape: plans::shape(k % 4),
         n: SIZES[2 * size],
         m: SIZES[2 * size + 1],
     };
     let told = steps(plan, x, k % 24 == 0);
-    shape_name(k % 4);
-    choice_name(k / 4 % 5);
+    plans::shape_name(k % 4);
+    plans::choice_name(k / 4 % 5);
     lines::row(&[plan.n, plan.m, told.h]);
     lines::end();
     told.x
@@ -48,8 +49,8 @@ fn steps(plan: Plan, x: u64, full: bool) -> Drawn {
 // Where not all flows at once, the first step leaves stores above their limits, and the others are refused.
 fn brimming(k: u64, x: u64) -> u64 {
     let at_once = k / 4 % 2 == 0;
-    let told = brimming_steps(shape(k % 4), x, at_once);
-    shape_name(k % 4);
+    let told = brimming_steps(plans::shape(k % 4), x, at_once);
+    plans::shape_name(k % 4);
     if at_once {
         lines::line(b" at once", &[told.h]);
     } else {
@@ -73,42 +74,4 @@ fn brimming_steps(shape: Shape, x: u64, at_once: bool) -> Drawn {
     };
     let ran = series::run(brim, 80);
     Drawn { x: ran.x, h: ran.h }
-}
-
-fn shape(k: u64) -> Shape {
-    match k {
-        0 => Shape::Chain,
-        1 => Shape::Star,
-        2 => Shape::Tree,
-        _ => Shape::Any,
-    }
-}
-
-fn choice(k: u64) -> Choice {
-    match k {
-        0 => Choice::Ordinary,
-        1 => Choice::Least,
-        2 => Choice::Most,
-        3 => Choice::End,
-        _ => Choice::Any,
-    }
-}
-
-fn shape_name(k: u64) {
-    match k {
-        0 => lines::word(b"chain"),
-        1 => lines::word(b"star"),
-        2 => lines::word(b"tree"),
-        _ => lines::word(b"any"),
-    }
-}
-
-fn choice_name(k: u64) {
-    match k {
-        0 => lines::word(b" ordinary"),
-        1 => lines::word(b" least"),
-        2 => lines::word(b" most"),
-        3 => lines::word(b" ends"),
-        _ => lines::word(b" any"),
-    }
 }

@@ -5,10 +5,9 @@ use basin::state::Basin;
 use basin::step;
 use basin::step::Outcome;
 use basin_testing::checksum::fold_basin;
-use basin_testing::files::load;
+use basin_testing::files;
 use forcing::list::Line;
 use testing::checksum;
-use testing::drafts;
 use testing::drafts::Plan;
 use testing::lines;
 
@@ -19,15 +18,12 @@ pub struct Ran {
     pub h: u64,
 }
 
-// The basin of a drafted file.
 pub fn started(plan: Plan, x: u64) -> Ran {
-    let draft = drafts::good(plan, x);
-    let file = draft.file;
-    let loaded = load(file);
-    let basin = loaded.basin;
+    let start = files::started(plan, x);
+    let basin = start.basin;
     Ran {
         basin,
-        x: draft.x,
+        x: start.x,
         h: 0,
     }
 }

@@ -1,6 +1,9 @@
 // The load of a file in a buffer.
 use basin::file;
 use basin::file::Loaded;
+use basin::state::Basin;
+use testing::drafts;
+use testing::drafts::Plan;
 use testing::files::File;
 
 pub fn load(given: File) -> Loaded {
@@ -14,4 +17,19 @@ fn load_prefix(bytes: &[u8], size: usize) -> Loaded {
     } else {
         file::load(bytes)
     }
+}
+
+// A basin and the generator.
+pub struct Start {
+    pub basin: Basin,
+    pub x: u64,
+}
+
+// The basin of a drafted file.
+pub fn started(plan: Plan, x: u64) -> Start {
+    let draft = drafts::good(plan, x);
+    let file = draft.file;
+    let loaded = load(file);
+    let basin = loaded.basin;
+    Start { basin, x: draft.x }
 }

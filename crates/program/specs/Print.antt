@@ -7,7 +7,7 @@ use lib.ListN.{length, take, drop}
 use Rattle.forcing.specs.File.{linesOf}
 use Rattle.basin.specs.declared.state.Basin.{Basin}
 use Rattle.basin.specs.declared.step.Report.{Report}
-use Rattle.basin.specs.Account.{Call}
+use Rattle.basin.specs.Calls.{Call}
 use Rattle.basin.specs.Step.{stepCall}
 use Rattle.basin.specs.File.{loadCall}
 

@@ -10,7 +10,7 @@ use Rattle.io.specs.Counts.{Counts}
 use Rattle.basin.specs.declared.state.Basin.{Basin}
 use Rattle.basin.specs.declared.step.Report.{Report}
 use Rattle.basin.specs.File.{loadCall}
-use Rattle.basin.specs.Account.{Call, lastBasin}
+use Rattle.basin.specs.Calls.{Call, lastBasin}
 use Rattle.program.specs.Print.{decimal, blank, newline}
 use Rattle.program.specs.Print.{shortText, partText, stepBytes, wholeSteps, partBytes, callsOf, stepsText, printed}
 

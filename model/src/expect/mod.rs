@@ -7,17 +7,22 @@ mod draw;
 mod embedding;
 mod file_cases;
 mod forcing_cases;
+mod places;
+mod plans;
 pub mod program_cases;
 pub mod root_speed;
 mod subbasin_series;
+mod weather;
+mod week_cases;
+pub mod week_speed;
 
 use crate::{files, program};
 use std::io::{self, Write};
 
 #[rustfmt::skip]
-const NAMES: [&str; 9] = [
-    "curve_cases", "root_speed", "subbasin_series", "forcing_cases", "file_cases", "basin_series", "program_cases",
-    "embedding", "account",
+const NAMES: [&str; 11] = [
+    "curve_cases", "root_speed", "subbasin_series", "forcing_cases", "file_cases", "basin_series", "week_cases",
+    "week_speed", "program_cases", "embedding", "account",
 ];
 
 pub fn names(out: &mut impl Write) -> io::Result<()> {
@@ -32,6 +37,8 @@ pub fn print(name: &str, out: &mut impl Write) -> io::Result<()> {
         "forcing_cases" => forcing_cases::print(out),
         "file_cases" => file_cases::print(out),
         "basin_series" => basin_series::print(out),
+        "week_cases" => week_cases::print(out),
+        "week_speed" => week_speed::print(out),
         "program_cases" => program_cases::print(out),
         "embedding" => embedding::print(out),
         "account" => {

@@ -21,15 +21,9 @@ use Rattle.subbasin.proofs.step.StepLaws.{Kept, step-keeps, step-balances}
 use Rattle.basin.specs.declared.state.Basin.{Basin}
 use Rattle.basin.specs.State.{subAt, reachAt, contentOf, SameWords, Unchanged}
 use Rattle.basin.specs.Step.{stepOf, sentBy, basinAfter, rainVolume, lossVolume, outletVolume}
-use Rattle.basin.specs.Workers.{Weathers}
+use Rattle.basin.specs.Workers.{Weathers, Shaped}
 use Rattle.basin.proofs.limits.LimitsLaws.{BasinIn}
 use Rattle.basin.proofs.network.NetworkLaws.{Clear, send-length, send-sum, send-clear, network-conserves, after-length, after-in, after-past}
-
--- the lengths that a basin's type gives
-pub record Shaped (b : Basin) : Type 0 where
-  pub subs-length : length (b .subs) ≡ 32
-  pub reaches-length : length (b .reaches) ≡ 31
-  pub places : (i : ℕ) → i < b .n → length (subAt b i .line .waiting) ≡ 15
 
 pub reading-weathers : (lines : List Line) (count n : ℕ) → Weathers (reading lines count n .weather)
 reading-weathers lines count n = record { long = weather-length lines count n; each = weather-in lines count n }

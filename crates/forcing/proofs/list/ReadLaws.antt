@@ -14,12 +14,12 @@ use Rattle.common.specs.Weather.{calm, WeatherIn}
 use Rattle.common.specs.Loops.{table, every, firstBad}
 use Rattle.common.proofs.Limits.{by-test, both, parts}
 use Rattle.common.proofs.amounts.AmountLaws.{getD-repeat}
-use Rattle.common.proofs.Loops.{table-length, table-in, table-past, filled-same, sum-same, every-in, every-at, first-bad-same, first-bad-found}
+use Rattle.common.proofs.Loops.{table-length, table-in, table-past, filled-same, sum-same, sum-bound, every-in, every-at, first-bad-same, first-bad-found}
 use Rattle.forcing.specs.declared.list.Line.{Line}
 use Rattle.forcing.specs.declared.list.Forcing.{Forcing}
 use Rattle.forcing.specs.List.{lineAt, weatherOf, lineInside, Inside, isInside, estimatedOf}
 use Rattle.forcing.specs.List.{lineNumber, firstBadLine, accepted, refusal, judgedLines, reading, ForFirstBad, JudgedList}
-use Rattle.forcing.proofs.list.LineLaws.{line-test, rain-first, line-weather}
+use Rattle.forcing.proofs.list.LineLaws.{estimated-one, line-test, rain-first, line-weather}
 
 -- ---- inside the limits
 
@@ -96,6 +96,13 @@ module _ (lines : List Line) (count n : ℕ) where
       reading-cases (λ (r : Forcing). r .number ≡ 0 → r ≡ accepted lines n) lines count n
       (λ i e. refl)
       (λ t number place h e. absurd (h e))
+
+  -- no more lines are estimated than there are
+  pub estimated-most : reading lines count n .estimated ≤ n
+  estimated-most =
+      reading-cases (λ (r : Forcing). r .estimated ≤ n) lines count n
+      (λ i. omega (arith, sum-bound (λ k. estimatedOf (lineAt lines k .rain)) 1 n (λ k l. estimated-one (lineAt lines k .rain))))
+      (λ t number place h. omega arith)
 
   -- ---- the weather
 

@@ -9,7 +9,7 @@ use lib.ListN.{length, take, drop, length-append, length-drop}
 use lib.Seq.{drop-drop, drop-append-le, take-append-le}
 use Rattle.forcing.specs.File.{linesOf}
 use Rattle.basin.specs.declared.state.Basin.{Basin}
-use Rattle.basin.specs.Account.{Call, lastBasin}
+use Rattle.basin.specs.Calls.{Call, lastBasin}
 use Rattle.basin.specs.Step.{stepCall}
 use Rattle.program.specs.Print.{stepBytes, callAt, callsIn, wholeSteps, partBytes, stepText, stepsText}
 

@@ -9,7 +9,7 @@ use lib.Seq.{drop-nil, drop-drop}
 use borrow.Author.Tests.{eq-eqb, ne-eqb}
 use Rattle.basin.specs.declared.state.Basin.{Basin}
 use Rattle.basin.specs.File.{loadCall}
-use Rattle.basin.specs.Account.{lastBasin}
+use Rattle.basin.specs.Calls.{lastBasin}
 use Rattle.basin.proofs.file.LoadedLaws.{accepted-within, words-loaded, loaded-n}
 use Rattle.program.specs.Print.{stepBytes, callsIn, wholeSteps, partBytes, callsOf, loadText, stepsText, partText, runText, printed}
 use Rattle.program.proofs.run.CallsLaws.{last-append, text-append, calls-length}

@@ -7,7 +7,7 @@ use native.Mathlib.Omega.{arith}
 use lib.ListN.{length, take, drop, length-append, length-drop}
 use lib.Seq.{slice, length-take-le, take-add, drop-nil, drop-drop}
 use Rattle.basin.specs.declared.state.Basin.{Basin}
-use Rattle.basin.specs.Account.{lastBasin}
+use Rattle.basin.specs.Calls.{lastBasin}
 use Rattle.program.specs.Print.{stepBytes, callsIn, wholeSteps, partBytes, callsOf, partText}
 use Rattle.program.specs.Workers.{Stepped, Begins, Ends, RunOf}
 use Rattle.program.proofs.run.CallsLaws.{last-append, whole-is, part-is, rest-more, calls-rest}

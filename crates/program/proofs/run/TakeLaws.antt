@@ -11,7 +11,7 @@ use Rattle.forcing.specs.declared.list.Line.{Line}
 use Rattle.forcing.specs.File.{linesOf}
 use Rattle.basin.specs.declared.state.Basin.{Basin}
 use Rattle.basin.specs.declared.step.Outcome.{Outcome}
-use Rattle.basin.specs.Account.{lastBasin}
+use Rattle.basin.specs.Calls.{lastBasin}
 use Rattle.basin.specs.Step.{stepCall}
 use Rattle.program.specs.Print.{stepBytes, callAt, callsIn, wholeSteps, callsOf, stepText, stepsText}
 use Rattle.program.specs.Workers.{Stepped}

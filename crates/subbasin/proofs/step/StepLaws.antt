@@ -14,12 +14,12 @@ use Rattle.subbasin.specs.declared.step.Stepped.{Stepped}
 use Rattle.subbasin.specs.Record.{words, mostStart, mostSlow}
 use Rattle.subbasin.specs.declared.soil.Runoff.{Runoff}
 use Rattle.subbasin.specs.declared.free_water.Parted.{Parted}
-use Rattle.subbasin.specs.Lag.{inUse, leaving, entered}
+use Rattle.subbasin.specs.Lag.{inUse, mostWaiting, leaving, entered}
 use Rattle.subbasin.specs.Step.{rest, let-go, holds, total, stepped}
 use Rattle.common.specs.Amounts.{sum}
 use Rattle.subbasin.specs.Content.{waterDepth, water}
 use Rattle.common.proofs.Limits.{Within}
-use Rattle.common.proofs.amounts.AmountLaws.{UpTo, up-to-more, up-to-zeros, up-to-drop}
+use Rattle.common.proofs.amounts.AmountLaws.{UpTo, up-to-more, up-to-zeros, up-to-drop, sum-most}
 use Rattle.subbasin.proofs.record.RecordLaws.{RecordIn, words-with}
 use Rattle.subbasin.proofs.lag.LagLaws.{LineIn, lag-kept, line-conserves, line-keeps, line-bounded, line-sum-most}
 use Rattle.subbasin.proofs.step.StageLaws.{Depths, depths, amount, Routes, routes}
@@ -168,6 +168,16 @@ module _ (m : ℕ) (s : SubBasin) (w : Weather) (h : RecordIn m s) (k : WeatherI
         leaving-fits,
         h .in-channel,
       ))
+
+-- what a record that 9 allows holds, before its step
+pub water-fits : (m : ℕ) (s : SubBasin) → RecordIn m s → length (s .line .waiting) ≡ 15 → water s ≤ 2 ^ 57
+unfolding water
+water-fits m s h n =
+    let ws = h .in-words in
+    let soil : s .fixed .area * waterDepth (s .contents) ≤ 2 ^ 47 =
+    le-trans (mul-le-mul {n₁ = s .fixed .area} {m₁ = waterDepth (s .contents)} {n₂ = 5000} {m₂ = 2 ^ 34 + 1000000} (omega arith) (omega arith)) (omega arith)
+    in
+    omega (arith, soil, sum-most mostWaiting (s .line .waiting) (h .in-line), ap (λ (k : ℕ). k * mostWaiting) n, h .in-channel)
 
 -- What is true of every record that steps lead to from a file's, REACH apart: stronger than 9, so no step meets it.
 pub record Sound (s : SubBasin) : Type 0 where

@@ -1,10 +1,10 @@
--- `basin_series::places::numbers` is safe and ends: place rises to count.
+-- `basin_testing::places::numbers` is safe and ends: place rises to count.
 -- Assumes nothing.
 use Prim.Native.Nat.{_≤_, _-_}
 use borrow.Author.Needs.{needs}
 use native.Mathlib.Omega.{arith}
-use Rattle.basin_series.proofs.places.numbers.Statement.{statement}
-use Rattle.basin_series.proofs.places.numbers.Tie as tie
+use Rattle.basin_testing.proofs.places.numbers.Statement.{statement}
+use Rattle.basin_testing.proofs.places.numbers.Tie as tie
 
 pub numbers-spec : {M : Type 1} → statement M
 numbers-spec =

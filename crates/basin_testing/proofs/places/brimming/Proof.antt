@@ -1,10 +1,10 @@
--- `basin_series::places::brimming` is safe and ends: place rises to count.
+-- `basin_testing::places::brimming` is safe and ends: place rises to count.
 -- Assumes nothing.
 use Prim.Native.Nat.{_≤_, _-_}
 use borrow.Author.Needs.{needs}
 use native.Mathlib.Omega.{arith}
-use Rattle.basin_series.proofs.places.brimming.Statement.{statement}
-use Rattle.basin_series.proofs.places.brimming.Tie as tie
+use Rattle.basin_testing.proofs.places.brimming.Statement.{statement}
+use Rattle.basin_testing.proofs.places.brimming.Tie as tie
 
 pub brimming-spec : {M : Type 1} → statement M
 brimming-spec =
