@@ -62,8 +62,7 @@ pub together-basin : (w : Ran) (b : Basin) (calls : List Call) → w .basin ≡ 
 unfolding together results lastBasin
 together-basin w b [] e = e
 together-basin w b (c ∷ cs) e =
-    let o : Outcome = stepCall b (c .lines) (c .count) in
-    together-basin (after w o) (o .basin) cs (after-basin w b (c .lines) (c .count) e)
+    together-basin _ (stepCall b (c .lines) (c .count) .basin) cs (after-basin w b (c .lines) (c .count) e)
 
 pub together-lost : (w : Ran) (b : Basin) (calls : List Call)
     → together w (results b calls) .report .evapotranspiration + together w (results b calls) .report .outlet
@@ -77,11 +76,11 @@ together-lost w b (c ∷ cs) =
 -- ---- one entry
 
 module _ (b : Basin) (h : SoundBasin b) (lines : List Line) where
-  week-taken : fits (b .n) (length lines) ≡ true → weekCall b lines ≡ together (untaken b 0 0) (results b (stepsOf (b .n) (week lines)))
+  week-taken : fits (b .n) (length lines) ≡ true → weekCall b lines ≡ together (untaken b 0) (results b (stepsOf (b .n) (week lines)))
   unfolding weekCall weekTaken stepsOf
   week-taken t = rw (sound-allowed b h, t, up-to-outside b h (weekCalls (b .n) lines))
 
-  week-refused : fits (b .n) (length lines) ≡ false → weekCall b lines ≡ untaken b 5 0
+  week-refused : fits (b .n) (length lines) ≡ false → weekCall b lines ≡ untaken b 5
   unfolding weekCall
   week-refused t = rw (sound-allowed b h, t)
 
@@ -89,7 +88,7 @@ module _ (b : Basin) (h : SoundBasin b) (lines : List Line) where
   unfolding ruleWeek
   week-ruled =
       by-test (λ (w : Ran). weekCall b lines ≡ w) (fits (b .n) (length lines))
-      (λ t. week-taken t ∙ ap (together (untaken b 0 0)) (results-ruled b h (stepsOf (b .n) (week lines)))) week-refused
+      (λ t. week-taken t ∙ ap (together (untaken b 0)) (results-ruled b h (stepsOf (b .n) (week lines)))) week-refused
 
 -- what was handed back last and reported together is that of these single steps
 record Stands (b : Basin) (calls : List Call) (last : Basin) (told : ℕ) : Type 0 where
@@ -107,8 +106,8 @@ entry-stands b h (week lines) = go (fits (b .n) (length lines)) refl
     go true t =
         rw (week-taken b h lines t)
         (record {
-          last-is = together-basin (untaken b 0 0) b (stepsOf (b .n) (week lines)) refl;
-          lost-is = omega (arith, together-lost (untaken b 0 0) b (stepsOf (b .n) (week lines)));
+          last-is = together-basin (untaken b 0) b (stepsOf (b .n) (week lines)) refl;
+          lost-is = omega (arith, together-lost (untaken b 0) b (stepsOf (b .n) (week lines)));
         })
     go false t = rw (week-refused b h lines t, t) (record { last-is = refl; lost-is = refl })
 

@@ -122,11 +122,11 @@ week-next rule got lines es h w e =
 
 -- its answer, where the steps that it stands for and their results are known
 pub week-is : (rule : Basin) (lines : List Line) (cs : List Call) (os : List Outcome) → fits (rule .n) (length lines) ≡ true
-    → stepsOf (rule .n) (week lines) ≡ cs → ruleResults rule cs ≡ os → ruleWeek rule lines ≡ together (untaken rule 0 0) os
+    → stepsOf (rule .n) (week lines) ≡ cs → ruleResults rule cs ≡ os → ruleWeek rule lines ≡ together (untaken rule 0) os
 unfolding ruleWeek
 week-is rule lines cs os t e d = rw (t, e, d)
 
-pub week-outside : (rule : Basin) (lines : List Line) → fits (rule .n) (length lines) ≡ false → ruleWeek rule lines ≡ untaken rule 5 0
+pub week-outside : (rule : Basin) (lines : List Line) → fits (rule .n) (length lines) ≡ false → ruleWeek rule lines ≡ untaken rule 5
 unfolding ruleWeek
 week-outside rule lines t = rw t
 

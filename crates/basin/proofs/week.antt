@@ -1,3 +1,1 @@
-pub mod Shape
-pub mod Walk
 pub mod WeekLaws

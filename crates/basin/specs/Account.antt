@@ -107,7 +107,7 @@ ruleResults b [] = []
 ruleResults b (c ∷ cs) = ruleCall b c ∷ ruleResults (ruleAfter b c) cs
 
 unfoldable pub ruleWeek : Basin → List Line → Ran
-ruleWeek b lines = cond (fits (b .n) (length lines)) (together (untaken b 0 0) (ruleResults b (stepsOf (b .n) (week lines)))) (untaken b 5 0)
+ruleWeek b lines = cond (fits (b .n) (length lines)) (together (untaken b 0) (ruleResults b (stepsOf (b .n) (week lines)))) (untaken b 5)
 
 -- every entry of the list beside the rule
 abbrev pub AllFollow : Basin → Basin → List Entry → Type 0

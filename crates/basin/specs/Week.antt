@@ -75,24 +75,24 @@ together w [] = w
 together w (o ∷ os) = together (after w o) os
 
 -- "leaves the basin unchanged", "count and sums are then 0"; with number 0, a week that has taken no step yet
-abbrev pub untaken : Basin → ℕ → ℕ → Ran
-untaken b number place = record { number = number; place = place; basin = b; count = 0; report = zeros }
+abbrev pub untaken : Basin → ℕ → Ran
+untaken b number = record { number = number; place = 0; basin = b; count = 0; report = zeros }
 
 -- "All of it equals taking the steps singly"
 unfoldable pub weekTaken : Basin → List Line → Ran
-weekTaken b lines = together (untaken b 0 0) (results b (upToRefused b (weekCalls (b .n) lines)))
+weekTaken b lines = together (untaken b 0) (results b (upToRefused b (weekCalls (b .n) lines)))
 
 -- "refused by 5 with place 0", "9 is judged first", "an empty one gets 9 too where a step would"
 unfoldable pub weekCall : Basin → List Line → Ran
-weekCall b lines = cond (basinIn b) (cond (fits (b .n) (length lines)) (weekTaken b lines) (untaken b 5 0)) (untaken b 9 0)
+weekCall b lines = cond (basinIn b) (cond (fits (b .n) (length lines)) (weekTaken b lines) (untaken b 5)) (untaken b 9)
 
 -- ---- what is said of the answer w, beside this rule, of any basin, loaded or handed in by a host
 
 pub record WeekJudged (b : Basin) (lines : List Line) (w : Ran) : Type 0 where
   -- "9 is judged first", for a list of any length
-  pub nine-first : basinIn b ≡ false → w ≡ untaken b 9 0
-  pub length-next : basinIn b ≡ true → fits (b .n) (length lines) ≡ false → w ≡ untaken b 5 0
+  pub nine-first : basinIn b ≡ false → w ≡ untaken b 9
+  pub length-next : basinIn b ≡ true → fits (b .n) (length lines) ≡ false → w ≡ untaken b 5
   -- an empty list is accepted: nothing taken, nothing summed
-  pub none : basinIn b ≡ true → lines ≡ [] → w ≡ untaken b 0 0
+  pub none : basinIn b ≡ true → lines ≡ [] → w ≡ untaken b 0
   -- no more can leave than was there and rained
   pub balance : contentOf (w .basin) + (w .report .evapotranspiration + w .report .outlet) ≡ contentOf b + w .report .rain

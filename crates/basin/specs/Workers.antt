@@ -2,15 +2,13 @@
 use mathlib.Core.Path.{_≡_}
 use mathlib.Core.Bool.{true, cond}
 use mathlib.Core.List.{List, []}
-use Prim.Native.Nat.{ℕ, _+_, _-_, _*_, _/_, _^_, _≤_, _<_}
-use lib.Dec.{eqb}
+use Prim.Native.Nat.{ℕ, _+_, _*_, _^_, _≤_, _<_}
 use lib.ListN.{length, getD}
 use Rattle.common.specs.declared.weather.Weather.{Weather}
 use Rattle.common.specs.Shares.{one}
 use Rattle.common.specs.Weather.{calm, WeatherIn}
 use Rattle.common.specs.Amounts.{sum}
 use Rattle.common.specs.Loops.{filled, sumOf}
-use Rattle.forcing.specs.declared.list.Line.{Line}
 use Rattle.subbasin.specs.declared.record.SubBasin.{SubBasin}
 use Rattle.subbasin.specs.Record.{mostStored, recordIn}
 use Rattle.subbasin.specs.Content.{water}
@@ -19,16 +17,11 @@ use Rattle.basin.specs.declared.reach.Reach.{Reach}
 use Rattle.basin.specs.declared.state.Basin.{Basin}
 use Rattle.basin.specs.declared.step.Subs.{Subs}
 use Rattle.basin.specs.declared.step.Turn.{Turn}
-use Rattle.basin.specs.declared.step.Report.{Report}
-use Rattle.basin.specs.declared.step.Outcome.{Outcome}
-use Rattle.basin.specs.declared.week.Ran.{Ran}
-use Rattle.basin.specs.declared.week.Going.{Going}
 use Rattle.basin.specs.Reach.{blankReach, reachIn}
-use Rattle.basin.specs.State.{subAt, contentOf}
-use Rattle.basin.specs.Limits.{subsUsed, basinIn}
+use Rattle.basin.specs.State.{subAt}
+use Rattle.basin.specs.Limits.{subsUsed}
 use Rattle.basin.specs.Network.{gOf, flows, reachesAfter}
-use Rattle.basin.specs.Step.{stepOf, sentBy, rainVolume, lossVolume, stepCall}
-use Rattle.basin.specs.Week.{mostSteps, fits, oneMore, stopped, untaken}
+use Rattle.basin.specs.Step.{stepOf, sentBy, rainVolume, lossVolume}
 
 -- 32 lines' weather, each inside its limits
 pub record Weathers (ws : List Weather) : Type 0 where
@@ -100,47 +93,10 @@ pub record Flowed (m : ℕ) (rs : List Reach) (sent : List ℕ) (after : List Re
   pub held-is : held ≡ sumOf (λ j. getD (reachesAfter rs m sent) j blankReach .content) m
   pub held-most : held ≤ 2 ^ 62
 
--- ---- the week on its way
+-- ---- the basin
 
 -- the lengths that a basin's type gives
 pub record Shaped (b : Basin) : Type 0 where
   pub subs-length : length (b .subs) ≡ 32
   pub reaches-length : length (b .reaches) ≡ 31
   pub places : (i : ℕ) → i < b .n → length (subAt b i .line .waiting) ≡ 15
-
--- nothing is left
-abbrev pub halted : Ran → Going
-halted w = record { left = 0; at = 0; n = 0; ran = w }
-
--- before the first step, by 9 and the length of the list
-unfoldable pub begun : Basin → ℕ → Going
-begun b long =
-    cond (basinIn b)
-    (cond (fits (b .n) long) (record { left = long / b .n; at = 0; n = b .n; ran = untaken b 0 0 }) (halted (untaken b 5 0)))
-    (halted (untaken b 9 0))
-
--- after one more step, of the lines `here`
-abbrev pub goneOnAs : Going → Outcome → Going
-goneOnAs g o =
-    cond (eqb (o .number) 0) (record { left = g .left - 1; at = g .at + g .n; n = g .n; ran = oneMore (g .ran) o })
-    (record { left = 0; at = g .at; n = g .n; ran = stopped (g .ran) o })
-
-unfoldable pub goneOn : Going → List Line → Going
-goneOn g here = goneOnAs g (stepCall (g .ran .basin) here (g .n))
-
--- a week that can take a step: its sums leave room for one more
-pub record Room (g : Going) : Type 0 where
-  pub shaped : Shaped (g .ran .basin)
-  pub some-left : 1 ≤ g .left
-  pub at-most : g .at + g .n < 2 ^ 64
-  pub count-most : g .ran .count < mostSteps
-  pub rain-most : g .ran .report .rain ≤ 2 ^ 50
-  pub out-most : contentOf (g .ran .basin) + (g .ran .report .evapotranspiration + g .ran .report .outlet) ≤ 2 ^ 63 + g .ran .report .rain
-  pub estimated-most : g .ran .report .estimated ≤ 2 ^ 16
-
--- reports whose sums fit 64 bits
-pub record SumsFit (sums last : Report) : Type 0 where
-  pub rain-fits : sums .rain + last .rain < 2 ^ 64
-  pub evapotranspiration-fits : sums .evapotranspiration + last .evapotranspiration < 2 ^ 64
-  pub outlet-fits : sums .outlet + last .outlet < 2 ^ 64
-  pub estimated-fits : sums .estimated + last .estimated < 2 ^ 64

@@ -4,7 +4,6 @@ ghost use Prim.Native.Nat.{min};
 ghost use lib.ListN.{take};
 ghost use Rattle.basin.specs.Week.{weekCall};
 use basin::state::Basin;
-use basin::week;
 use basin::week::Ran;
 use forcing::list::Line;
 

@@ -1,47 +1,45 @@
--- The week: one accepted step's bounds, and how a week on its way comes to the definition's answer. Assumes nothing.
-use mathlib.Core.Path.{_≡_, refl, sym, ap, _∙_}
-use mathlib.Core.Bool.{Bool, true, false, cond, true≢false}
-use mathlib.Core.List.{List, [], _∷_}
-use Prim.Native.Nat.{ℕ, zero, suc, _+_, _-_, _*_, _/_, _%_, _^_, _≤_, _<_}
-use native.Mathlib.Nat.{zero-add, suc-add, suc-mul, mul-le-mul-right, mod-add-div', div-le-of-le-mul, zero-mod, zero-div}
-use native.Mathlib.Numerals.{add-one}
+-- The week: what an accepted step reports, and the definition by 9, the length and the steps. Assumes nothing.
+use mathlib.Core.Path.{_≡_, refl, sym, _∙_}
+use mathlib.Core.Bool.{true, false}
+use mathlib.Core.List.{List, []}
+use Prim.Native.Nat.{ℕ, _+_, _*_, _/_, _%_, _^_, _≤_, _<_}
+use native.Mathlib.Nat.{zero-mod, zero-div}
 use native.Mathlib.Omega.{arith}
 use lib.Dec.{eqb, leb}
-use lib.ListN.{length, getD, drop}
-use lib.Seq.{drop-nil}
-use borrow.Author.Tests.{le-leb, lt-leb, leb-true, eq-eqb, ne-eqb, eqb-true, eqb-false}
+use lib.ListN.{length, getD}
+use borrow.Author.Tests.{le-leb, lt-leb, leb-true, eqb-true}
 use Rattle.common.specs.declared.weather.Weather.{Weather}
 use Rattle.common.specs.Weather.{calm}
-use Rattle.common.specs.Loops.{sumOf}
 use Rattle.common.proofs.Limits.{parts, both}
 use Rattle.common.proofs.Loops.{sum-bound}
 use Rattle.forcing.specs.declared.list.Line.{Line}
-use Rattle.forcing.specs.declared.list.Forcing.{Forcing}
 use Rattle.forcing.specs.List.{reading}
 use Rattle.forcing.proofs.list.ReadLaws.{estimated-most}
 use Rattle.subbasin.specs.Content.{water}
 use Rattle.subbasin.proofs.step.StepLaws.{rain-fits, water-fits}
 use Rattle.basin.specs.declared.state.Basin.{Basin}
-use Rattle.basin.specs.declared.step.Report.{Report}
 use Rattle.basin.specs.declared.step.Outcome.{Outcome}
 use Rattle.basin.specs.declared.week.Ran.{Ran}
-use Rattle.basin.specs.declared.week.Going.{Going}
 use Rattle.basin.specs.State.{subAt, reachAt, contentOf}
 use Rattle.basin.specs.Limits.{basinIn}
 use Rattle.basin.specs.Step.{rainVolume, taken, stepCall}
-use Rattle.basin.specs.Calls.{Call, results}
-use Rattle.basin.specs.Week.{mostSteps, fits, stepLines, callsOf, weekCalls, upToRefused, joined, after, oneMore, stopped, together, untaken, weekTaken, weekCall, WeekJudged}
-use Rattle.basin.specs.Workers.{Weathers, Shaped, halted, begun, goneOnAs, goneOn, Room, SumsFit}
+use Rattle.basin.specs.Calls.{results}
+use Rattle.basin.specs.Week.{mostSteps, fits, callsOf, weekCalls, upToRefused, after, oneMore, stopped, together, untaken, weekTaken, weekCall, WeekJudged}
+use Rattle.basin.specs.Workers.{Weathers, Shaped}
 use Rattle.basin.proofs.limits.LimitsLaws.{BasinIn, basin-limits}
 use Rattle.basin.proofs.step.CallLaws.{call-inside, answers}
 use Rattle.basin.proofs.step.StepLaws.{reading-weathers, step-balance}
 
 -- ---- one accepted step of a basin that 9 allows
 
+pub count-in : (b : Basin) → basinIn b ≡ true → (1 ≤ b .n) × (b .n ≤ 32)
+count-in b t = let h = basin-limits b t in (h .n-least, h .n-most)
+
 -- what it holds
-pub content-most : (b : Basin) → BasinIn b → Shaped b → contentOf b ≤ 2 ^ 63
+pub content-most : (b : Basin) → basinIn b ≡ true → Shaped b → contentOf b ≤ 2 ^ 63
 unfolding contentOf
-content-most b h sh =
+content-most b t sh =
+    let h = basin-limits b t in
     omega (
       arith,
       sum-bound (λ i. water (subAt b i)) (2 ^ 57) (b .n) (λ i l. water-fits (b .m) (subAt b i) (h .used-subs i l) (sh .places i l)),
@@ -61,7 +59,6 @@ rain-volume-most b ws h k =
 
 -- what an accepted step reports: little rain, few estimated lines, and no more leaves than was there and rained
 pub record Reported (b : Basin) (o : Outcome) : Type 0 where
-  pub allowed : BasinIn b
   pub rain-most : o .report .rain ≤ 2 ^ 38
   pub estimated-few : o .report .estimated ≤ 32
   pub balance : contentOf (o .basin) + (o .report .evapotranspiration + o .report .outlet) ≡ contentOf b + o .report .rain
@@ -74,136 +71,34 @@ reported b lines count sh {o} e z =
     let k = reading-weathers lines count (b .n) in
     rw (e ∙ call-inside b lines count (in-both .0) (in-both .1))
     (record {
-      allowed = h;
       rain-most = rain-volume-most b (reading lines count (b .n) .weather) h k;
       estimated-few = omega (arith, estimated-most lines count (b .n), h .n-most);
       balance = omega (arith, step-balance b (reading lines count (b .n) .weather) h sh k);
     })
 
--- ---- a week on its way
+-- ---- one more step
 
--- the answer of a week that goes on from here
-abbrev finish : List Line → Going → Ran
-finish lines g = together (g .ran) (results (g .ran .basin) (upToRefused (g .ran .basin) (callsOf (g .n) (g .left) (drop (g .at) lines))))
-
-pub record Along (b : Basin) (lines : List Line) (g : Going) : Type 0 where
-  pub answer : finish lines g ≡ weekCall b lines
-  pub inside : g .at + g .left * g .n ≤ length lines
-  pub few : g .n ≤ 32
-  pub short : g .ran .count + g .left ≤ mostSteps
-  pub rain-most : g .ran .report .rain ≤ g .ran .count * 2 ^ 38
-  pub estimated-few : g .ran .report .estimated ≤ g .ran .count * 32
-  pub balance : contentOf (g .ran .basin) + (g .ran .report .evapotranspiration + g .ran .report .outlet) ≡ contentOf b + g .ran .report .rain
-  pub start-most : 1 ≤ g .left → contentOf b ≤ 2 ^ 63
-
-drop-more : (i j : ℕ) (l : List Line) → drop j (drop i l) ≡ drop (i + j) l
-drop-more zero j l = ap (λ (k : ℕ). drop k l) (sym (zero-add j))
-drop-more (suc i) j [] = drop-nil j ∙ sym (drop-nil (suc i + j))
-drop-more (suc i) j (x ∷ l) = drop-more i j l ∙ ap (λ (k : ℕ). drop k (x ∷ l)) (sym (suc-add i j))
-
-after-accepted : (w : Ran) (o : Outcome) → eqb (o .number) 0 ≡ true → after w o ≡ oneMore w o
+pub after-accepted : (w : Ran) (o : Outcome) → eqb (o .number) 0 ≡ true → after w o ≡ oneMore w o
 unfolding after
 after-accepted w o t = rw t
 
-after-refused : (w : Ran) (o : Outcome) → eqb (o .number) 0 ≡ false → after w o ≡ stopped w o
+pub after-refused : (w : Ran) (o : Outcome) → eqb (o .number) 0 ≡ false → after w o ≡ stopped w o
 unfolding after
 after-refused w o t = rw t
-
-one-less : (k : ℕ) → suc k - 1 ≡ k
-one-less k = omega arith
-
--- one step on, where its outcome is known
-module _ (b : Basin) (lines : List Line) (k at n : ℕ) (w : Ran) (h : Along b lines (record { left = suc k; at = at; n = n; ran = w })) (sh : Shaped (w .basin)) where
-  abbrev here : List Line
-  here = stepLines n (drop at lines)
-
-  abbrev o : Outcome
-  o = stepCall (w .basin) here n
-
-  on-accepted : o .number ≡ 0 → Along b lines (record { left = k; at = at + n; n = n; ran = oneMore w o })
-  unfolding callsOf upToRefused results together after
-  on-accepted z =
-      let r = reported (w .basin) here n sh {o = o} refl z in
-      let t : eqb (o .number) 0 ≡ true = eq-eqb (o .number) 0 z in
-      record {
-        answer = sym (rw (t, after-accepted w o t, drop-more at n lines)) ∙ h .answer;
-        inside = omega (arith, h .inside, suc-mul k n);
-        few = h .few;
-        short = omega (arith, h .short);
-        rain-most = omega (arith, h .rain-most, r .rain-most);
-        estimated-few = omega (arith, h .estimated-few, r .estimated-few);
-        balance = omega (arith, h .balance, r .balance);
-        start-most = λ l. h .start-most (omega arith);
-      }
-
-  on-refused : (o .number ≡ 0 → ⊥) → Along b lines (record { left = 0; at = at; n = n; ran = stopped w o })
-  unfolding callsOf upToRefused results together after
-  on-refused z =
-      let t : eqb (o .number) 0 ≡ false = ne-eqb (o .number) 0 z in
-      record {
-        answer = sym (rw t (after-refused w o t)) ∙ h .answer;
-        inside = omega (arith, h .inside);
-        few = h .few;
-        short = omega (arith, h .short);
-        rain-most = h .rain-most;
-        estimated-few = h .estimated-few;
-        balance = h .balance;
-        start-most = λ l. absurd (omega arith);
-      }
-
-  on-case : (t : Bool) → eqb (o .number) 0 ≡ t → Along b lines (goneOnAs (record { left = suc k; at = at; n = n; ran = w }) o)
-  on-case true e = rw (e, one-less k) (on-accepted (eqb-true (o .number) 0 e))
-  on-case false e = rw e (on-refused (eqb-false (o .number) 0 e))
-
-on-left : (b : Basin) (lines : List Line) (left at n : ℕ) (w : Ran) → Along b lines (record { left = left; at = at; n = n; ran = w }) → 1 ≤ left → Shaped (w .basin)
-    → Along b lines (goneOnAs (record { left = left; at = at; n = n; ran = w }) (stepCall (w .basin) (stepLines n (drop at lines)) n))
-on-left b lines zero at n w h l sh = absurd (omega arith)
-on-left b lines (suc k) at n w h l sh = on-case b lines k at n w h sh (eqb (stepCall (w .basin) (stepLines n (drop at lines)) n .number) 0) refl
-
-pub along-on : (b : Basin) (lines : List Line) (g : Going) → Along b lines g → 1 ≤ g .left → Shaped (g .ran .basin)
-    → Along b lines (goneOn g (stepLines (g .n) (drop (g .at) lines)))
-unfolding goneOn
-along-on b lines g h l sh = on-left b lines (g .left) (g .at) (g .n) (g .ran) h l sh
-
-pub along-room : (b : Basin) (lines : List Line) (g : Going) → Along b lines g → 1 ≤ g .left → Shaped (g .ran .basin) → length lines < 2 ^ 64 → Room g
-along-room b lines g h l sh few =
-    record {
-      shaped = sh;
-      some-left = l;
-      at-most = omega (arith, h .inside, mul-le-mul-right (g .n) l);
-      count-most = omega (arith, h .short);
-      rain-most = omega (arith, h .rain-most, h .short);
-      out-most = omega (arith, h .balance, h .start-most l);
-      estimated-most = omega (arith, h .estimated-few, h .short);
-    }
-
--- a step is one less, and a refusal leaves none
-pub along-less : (g : Going) (lines : List Line) → 1 ≤ g .left → goneOn g lines .left < g .left
-unfolding goneOn
-along-less g lines l = less (eqb (stepCall (g .ran .basin) lines (g .n) .number) 0)
-  where
-    less : (t : Bool) → cond {A = Going} t (record { left = g .left - 1; at = g .at + g .n; n = g .n; ran = oneMore (g .ran) (stepCall (g .ran .basin) lines (g .n)) })
-        (record { left = 0; at = g .at; n = g .n; ran = stopped (g .ran) (stepCall (g .ran .basin) lines (g .n)) }) .left < g .left
-    less true = omega arith
-    less false = omega arith
-
--- the lines of the next step are there
-pub along-inside : (b : Basin) (lines : List Line) (g : Going) → Along b lines g → 1 ≤ g .left → (g .at + g .n ≤ length lines) × (g .n ≤ 32)
-along-inside b lines g h l = (omega (arith, h .inside, mul-le-mul-right (g .n) l), h .few)
 
 -- ---- the definition, by 9 and the length
 
 module _ (b : Basin) (lines : List Line) where
-  pub week-nine : basinIn b ≡ false → untaken b 9 0 ≡ weekCall b lines
+  pub week-nine : basinIn b ≡ false → untaken b 9 ≡ weekCall b lines
   unfolding weekCall
   week-nine e = sym (rw e)
 
-  pub week-length : basinIn b ≡ true → fits (b .n) (length lines) ≡ false → untaken b 5 0 ≡ weekCall b lines
+  pub week-length : basinIn b ≡ true → fits (b .n) (length lines) ≡ false → untaken b 5 ≡ weekCall b lines
   unfolding weekCall
   week-length e d = sym (rw (e, d))
 
-  week-taken : basinIn b ≡ true → fits (b .n) (length lines) ≡ true
-      → weekCall b lines ≡ together (untaken b 0 0) (results b (upToRefused b (callsOf (b .n) (length lines / b .n) lines)))
+  pub week-taken : basinIn b ≡ true → fits (b .n) (length lines) ≡ true
+      → weekCall b lines ≡ together (untaken b 0) (results b (upToRefused b (callsOf (b .n) (length lines / b .n) lines)))
   unfolding weekCall weekTaken weekCalls
   week-taken e d = rw (e, d)
 
@@ -227,106 +122,27 @@ pub fits-whole : (n long : ℕ) → long ≤ mostSteps * n → eqb (long % n) 0 
 unfolding fits
 fits-whole n long l = sym (rw (le-leb long (mostSteps * n) l))
 
--- ---- before the first step
-
-module _ (b : Basin) (lines : List Line) (sh : Shaped b) where
-  halted-along : (number : ℕ) → untaken b number 0 ≡ weekCall b lines → Along b lines (halted (untaken b number 0))
-  unfolding callsOf upToRefused results together
-  halted-along number e =
-      record {
-        answer = e;
-        inside = omega arith;
-        few = omega arith;
-        short = omega arith;
-        rain-most = omega arith;
-        estimated-few = omega arith;
-        balance = omega arith;
-        start-most = λ l. absurd (omega arith);
-      }
-
-  started-along : basinIn b ≡ true → fits (b .n) (length lines) ≡ true → Along b lines (record { left = length lines / b .n; at = 0; n = b .n; ran = untaken b 0 0 })
-  started-along e d =
-      let h = basin-limits b e in
-      let f = fitting (b .n) (length lines) d in
-      record {
-        answer = sym (week-taken b lines e d);
-        inside = omega (arith, mod-add-div' (length lines) (b .n));
-        few = h .n-most;
-        short = omega (arith, div-le-of-le-mul (b .n) {m = length lines} {n = mostSteps} (omega (arith, f .most)));
-        rain-most = omega arith;
-        estimated-few = omega arith;
-        balance = omega arith;
-        start-most = λ l. content-most b h sh;
-      }
-
-  pub begun-along : Along b lines (begun b (length lines))
-  unfolding begun
-  begun-along = go (basinIn b) (fits (b .n) (length lines)) refl refl
-    where
-      go : (t u : Bool) → basinIn b ≡ t → fits (b .n) (length lines) ≡ u → Along b lines (begun b (length lines))
-      go false u e d = rw e (halted-along 9 (week-nine b lines e))
-      go true false e d = rw (e, d) (halted-along 5 (week-length b lines e d))
-      go true true e d = rw (e, d) (started-along e d)
-
--- ---- what the workers answer
-
-module _ (b : Basin) (long : ℕ) where
-  pub begun-whole : basinIn b ≡ true → fits (b .n) long ≡ true → {w : Ran} → w ≡ untaken b 0 0
-      → record { left = long / b .n; at = 0; n = b .n; ran = w } ≡ begun b long
-  unfolding begun
-  begun-whole e d q = rw (e, d, q)
-
-  pub begun-length : basinIn b ≡ true → fits (b .n) long ≡ false → halted (untaken b 5 0) ≡ begun b long
-  unfolding begun
-  begun-length e d = sym (rw (e, d))
-
-  pub begun-nine : basinIn b ≡ false → halted (untaken b 9 0) ≡ begun b long
-  unfolding begun
-  begun-nine e = sym (rw e)
-
-module _ (g : Going) (here : List Line) {o : Outcome} (e : o ≡ stepCall (g .ran .basin) here (g .n)) where
-  pub gone-refused : (o .number ≡ 0 → ⊥) → record { left = 0; at = g .at; n = g .n; ran = stopped (g .ran) o } ≡ goneOn g here
-  unfolding goneOn
-  gone-refused z = sym (rw (← e, ne-eqb (o .number) 0 z))
-
-  module _ (z : o .number ≡ 0) where
-    pub gone-accepted : {r : Report} → r ≡ joined (g .ran .report) (o .report)
-        → record { left = g .left - 1; at = g .at + g .n; n = g .n; ran = record { number = 0; place = 0; basin = o .basin; count = g .ran .count + 1; report = r } }
-        ≡ goneOn g here
-    unfolding goneOn
-    gone-accepted q = sym (rw (← e, eq-eqb (o .number) 0 z, ← q, ← (add-one (g .ran .count))))
-
-    pub sums-fit : Room g → SumsFit (g .ran .report) (o .report)
-    sums-fit room =
-        let r = reported (g .ran .basin) here (g .n) (room .shaped) e z in
-        record {
-          rain-fits = omega (arith, room .rain-most, r .rain-most);
-          evapotranspiration-fits = omega (arith, room .out-most, room .rain-most, r .rain-most, r .balance);
-          outlet-fits = omega (arith, room .out-most, room .rain-most, r .rain-most, r .balance);
-          estimated-fits = omega (arith, room .estimated-most, r .estimated-few);
-        }
-
--- ---- after the last step
+-- ---- what the contract says
 
 module _ (b : Basin) (lines : List Line) where
   empty-fits : (n : ℕ) → fits n 0 ≡ true
   unfolding fits
   empty-fits n = rw (zero-mod n) (both (le-leb 0 (mostSteps * n) (omega arith)) refl)
 
-  week-empty : basinIn b ≡ true → lines ≡ [] → weekCall b lines ≡ untaken b 0 0
+  week-empty : basinIn b ≡ true → lines ≡ [] → weekCall b lines ≡ untaken b 0
   unfolding weekCall weekTaken weekCalls callsOf upToRefused results together
   week-empty e z = rw (z, e, empty-fits (b .n), zero-div (b .n))
 
-  -- the whole answer, and with it all that the contract says
-  pub along-end : (g : Going) → Along b lines g → g .left ≡ 0 → (g .ran ≡ weekCall b lines) × WeekJudged b lines (g .ran)
-  unfolding callsOf upToRefused results together
-  along-end g h z =
-      let e : g .ran ≡ weekCall b lines = sym (rw z) ∙ h .answer in (
-        e,
-        record {
-          nine-first = λ t. e ∙ sym (week-nine b lines t);
-          length-next = λ t d. e ∙ sym (week-length b lines t d);
-          none = λ t n. e ∙ week-empty t n;
-          balance = h .balance;
-        },
-      )
+  -- the equation of a week's answer, with its balance, and so all of it
+  pub week-judged : {w : Ran} → w ≡ weekCall b lines
+      → contentOf (w .basin) + (w .report .evapotranspiration + w .report .outlet) ≡ contentOf b + w .report .rain
+      → (w ≡ weekCall b lines) × WeekJudged b lines w
+  week-judged e balance = (
+    e,
+    record {
+      nine-first = λ t. e ∙ sym (week-nine b lines t);
+      length-next = λ t d. e ∙ sym (week-length b lines t d);
+      none = λ t n. e ∙ week-empty t n;
+      balance = balance;
+    },
+  )

@@ -1,9 +1,9 @@
--- `basin::week::go_on` meets its contract: the step's outcome is known, and the sums fit by the balance. Assumes nothing.
+-- `week::go_on` meets its contract: the step's outcome is known, and the sums fit by the balance. Assumes nothing.
 use native.Mathlib.Omega.{arith}
 use borrow.Author.Needs.{needs}
-use Rattle.basin.proofs.week.WeekLaws.{gone-refused, gone-accepted, sums-fit}
-use Rattle.basin.proofs.week.go_on.Statement.{statement}
-use Rattle.basin.proofs.week.go_on.Tie as tie
+use Rattle.week.proofs.GoingLaws.{gone-refused, gone-accepted, sums-fit}
+use Rattle.week.proofs.go_on.Statement.{statement}
+use Rattle.week.proofs.go_on.Tie as tie
 
 returns : tie.Need-returns
 returns c = gone-refused _ _ (c .before .before .step-with .ensures .0) (c .if1 .taken)

@@ -1,8 +1,8 @@
--- `basin::week::whole_steps` meets its contract. Assumes nothing.
+-- `week::whole_steps` meets its contract. Assumes nothing.
 use borrow.Author.Needs.{needs}
 use Rattle.basin.proofs.week.WeekLaws.{fits-not, fits-whole}
-use Rattle.basin.proofs.week.whole_steps.Statement.{statement}
-use Rattle.basin.proofs.week.whole_steps.Tie as tie
+use Rattle.week.proofs.whole_steps.Statement.{statement}
+use Rattle.week.proofs.whole_steps.Tie as tie
 
 returns : tie.Need-returns
 returns c = fits-not _ _ (c .if1 .taken)

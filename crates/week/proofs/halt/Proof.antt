@@ -1,9 +1,9 @@
--- `basin::week::halt` meets its contract. Assumes nothing.
+-- `week::halt` meets its contract. Assumes nothing.
 use mathlib.Core.Path.{ap}
 use borrow.Author.Needs.{needs}
-use Rattle.basin.specs.Workers.{halted}
-use Rattle.basin.proofs.week.halt.Statement.{statement}
-use Rattle.basin.proofs.week.halt.Tie as tie
+use Rattle.week.specs.Workers.{halted}
+use Rattle.week.proofs.halt.Statement.{statement}
+use Rattle.week.proofs.halt.Tie as tie
 
 returns : tie.Need-returns
 returns c = ap halted (c .nothing-taken .ensures)

@@ -1,4 +1,4 @@
--- `basin::week::week_with` meets its contract: a walk of its MIR, by hand, since it is lent a slice of structs. Before each turn the week on its
+-- `week::week_with` meets its contract: a walk of its MIR, by hand, since it is lent a slice of structs. Before each turn the week on its
 -- way has `Along`, the law of the week; the two calls of a turn are known by their contracts. Assumes nothing.
 use mathlib.Core.Path.{_≡_, refl, sym, ap, subst, _∙_}
 use mathlib.Core.List.{List, [], _∷_, head-eq-of-cons-eq}
@@ -26,7 +26,7 @@ use types.Part.{whole, sub, look-in}
 use types.Run.{look, init, store, forget, stop, fld, from, load, lit, of-opd, bin, and-then, no-more, land, land-last, assigns, first, skips, jumps, blocks, branches, returns, enter, alloc1, alloc0, params1, pass1, pass0, free1, free0, exec, Below, again, loops}
 use denote.RattleType.{RattleType, owns}
 use denote.Laws.{Is, Makes, Lawful, shows}
-use denote.Plain.{uint-vals, uint-tells, uint-makes}
+use denote.Plain.{uint-makes}
 use denote.Builtin.{u32, usize, RefOf, SliceRefOf, ArrayOf}
 use denote.Signature.{Slot, plain}
 use denote.Array.{Array, array-makes, array-lawful}
@@ -41,42 +41,43 @@ use denote.Triple.Entry.{Vals, onEntry}
 use denote.Triple.Spec.{Meets, tripleOf}
 use denote.Triple.Table.{entered, cited}
 use denote.Triple.Clauses.{ensured, lasts}
-use denote.Triple.Walked.{says, Stays, stay-dropped, onExit, walkOf, goes-dropped, Walks, ends-at, walked, walk-meets}
+use denote.Triple.Walked.{says, Stays, stay-dropped, onExit, walkOf, goes-dropped, ends-at, walked, walk-meets}
 use denote.Exit.{yes}
 use Rattle.forcing.specs.declared.list.Line.{Line}
 use Rattle.forcing.proofs.list.Line as T
 use Rattle.forcing.proofs.list.Line.Laws as T′
 use Rattle.basin.specs.declared.state.Basin.{Basin}
 use Rattle.basin.specs.declared.week.Ran.{Ran}
-use Rattle.basin.specs.declared.week.Going.{Going}
+use Rattle.week.specs.declared.Going.{Going}
 use Rattle.basin.specs.Week.{stepLines, weekCall, WeekJudged}
-use Rattle.basin.specs.Workers.{Shaped, begun, goneOn, Room}
+use Rattle.basin.specs.Workers.{Shaped}
+use Rattle.week.specs.Workers.{begun, goneOn, Room}
 use Rattle.basin.proofs.state.Basin as B
 use Rattle.basin.proofs.state.Basin.Laws as B′
 use Rattle.basin.proofs.week.Ran as A′
 use Rattle.basin.proofs.week.Ran.Laws as A″
-use Rattle.basin.proofs.week.Going as G
-use Rattle.basin.proofs.week.Going.Laws as G′
-use Rattle.basin.proofs.week.Shape.{basin-shaped}
-use Rattle.basin.proofs.week.Walk.{later-part}
-use Rattle.basin.proofs.week.WeekLaws.{Along, begun-along, along-on, along-room, along-inside, along-less, along-end}
-use Rattle.basin.proofs.week.begin as begin
-use Rattle.basin.proofs.week.begin.Symbol as begin-def
-use Rattle.basin.proofs.week.begin.Symbol.{name as #begin}
-use Rattle.basin.proofs.week.begin.Met as begin-thm
-use Rattle.basin.proofs.week.lines_of as lines-of
-use Rattle.basin.proofs.week.lines_of.Symbol as lines-of-def
-use Rattle.basin.proofs.week.lines_of.Symbol.{name as #lines-of}
-use Rattle.basin.proofs.week.lines_of.Met as lines-of-thm
-use Rattle.basin.proofs.week.go_on as go-on
-use Rattle.basin.proofs.week.go_on.Symbol as go-on-def
-use Rattle.basin.proofs.week.go_on.Symbol.{name as #go-on}
-use Rattle.basin.proofs.week.go_on.Met as go-on-thm
-use Rattle.basin.proofs.week.week_with.Key.{name as #week-with}
-use Rattle.basin.proofs.week.week_with as week-with
-use Rattle.basin.proofs.week.week_with.Statement as stated
-use Rattle.basin.proofs.week.week_with.Code as code
-use Rattle.basin.proofs.week.week_with.Code.Mir as body
+use Rattle.week.proofs.Going as G
+use Rattle.week.proofs.Going.Laws as G′
+use Rattle.week.proofs.Shape.{basin-shaped}
+use Rattle.week.proofs.Walk.{later-part}
+use Rattle.week.proofs.GoingLaws.{Along, begun-along, along-on, along-room, along-inside, along-less, along-end}
+use Rattle.week.proofs.begin as begin
+use Rattle.week.proofs.begin.Symbol as begin-def
+use Rattle.week.proofs.begin.Symbol.{name as #begin}
+use Rattle.week.proofs.begin.Met as begin-thm
+use Rattle.week.proofs.lines_of as lines-of
+use Rattle.week.proofs.lines_of.Symbol as lines-of-def
+use Rattle.week.proofs.lines_of.Symbol.{name as #lines-of}
+use Rattle.week.proofs.lines_of.Met as lines-of-thm
+use Rattle.week.proofs.go_on as go-on
+use Rattle.week.proofs.go_on.Symbol as go-on-def
+use Rattle.week.proofs.go_on.Symbol.{name as #go-on}
+use Rattle.week.proofs.go_on.Met as go-on-thm
+use Rattle.week.proofs.week_with.Key.{name as #week-with}
+use Rattle.week.proofs.week_with as week-with
+use Rattle.week.proofs.week_with.Statement as stated
+use Rattle.week.proofs.week_with.Code as code
+use Rattle.week.proofs.week_with.Code.Mir as body
 
 -- nothing is had of a parameter at exit
 abbrev table : Slot 2
@@ -395,6 +396,6 @@ week-with-spec 𝓤 H 𝓜 𝓖 𝓡 =
     entered 𝓤 H (tripleOf 𝓤 H (𝓖 .A) week-with.signature (week-with.spec 𝓤 H (𝓖 .A) (𝓜 .mem) (𝓡 .run)))
     (tables 𝓤 H 𝓜 𝓡 code.env .C) (tables 𝓤 H 𝓜 𝓡 code.env .Λ) #week-with code.function (code.unfolded 𝓤 H 𝓜 𝓡)
     (week-with-meets 𝓤 H (𝓖 .A) (givenOf 𝓤 H 𝓜 𝓖) (𝓜 .mem) (𝓡 .run) (tablesOf 𝓤 H 𝓜 (tables 𝓤 H 𝓜 𝓡 code.env))
-    (cited 𝓤 H (Begin 𝓤 H (𝓖 .A) (𝓜 .mem) (𝓡 .run)) 𝓜 𝓡 code.env #begin begin-def.routine code.calls-basin·week·begin (begin-thm.met 𝓤 H 𝓜 𝓖 𝓡))
-    (cited 𝓤 H (LinesOf 𝓤 H (𝓖 .A) (𝓜 .mem) (𝓡 .run)) 𝓜 𝓡 code.env #lines-of lines-of-def.routine code.calls-basin·week·lines-of (lines-of-thm.met 𝓤 H 𝓜 𝓖 𝓡))
-    (cited 𝓤 H (GoOn 𝓤 H (𝓖 .A) (𝓜 .mem) (𝓡 .run)) 𝓜 𝓡 code.env #go-on go-on-def.routine code.calls-basin·week·go-on (go-on-thm.met 𝓤 H 𝓜 𝓖 𝓡)))
+    (cited 𝓤 H (Begin 𝓤 H (𝓖 .A) (𝓜 .mem) (𝓡 .run)) 𝓜 𝓡 code.env #begin begin-def.routine code.calls-week·begin (begin-thm.met 𝓤 H 𝓜 𝓖 𝓡))
+    (cited 𝓤 H (LinesOf 𝓤 H (𝓖 .A) (𝓜 .mem) (𝓡 .run)) 𝓜 𝓡 code.env #lines-of lines-of-def.routine code.calls-week·lines-of (lines-of-thm.met 𝓤 H 𝓜 𝓖 𝓡))
+    (cited 𝓤 H (GoOn 𝓤 H (𝓖 .A) (𝓜 .mem) (𝓡 .run)) 𝓜 𝓡 code.env #go-on go-on-def.routine code.calls-week·go-on (go-on-thm.met 𝓤 H 𝓜 𝓖 𝓡)))

@@ -1,10 +1,9 @@
--- `basin::week::lines_of` meets its contract: a walk of its MIR, by hand, since it reads a slice of structs. Before each turn `here` has the
+-- `week::lines_of` meets its contract: a walk of its MIR, by hand, since it reads a slice of structs. Before each turn `here` has the
 -- lines up to k in its first places; a line is taken out of the slice, read and put back. Assumes nothing.
 use mathlib.Core.Path.{_≡_, refl, sym, ap, subst, _∙_}
 use mathlib.Core.List.{List, [], _∷_, map}
 use mathlib.Core.WellFounded.{WellFounded, InvImage·wf}
-use Prim.Native.Nat.{ℕ, _+_, _-_, _*_, _≤_, _<_, _^_, zero-le}
-use native.Mathlib.Numerals.{add-one}
+use Prim.Native.Nat.{ℕ, _+_, _-_, _≤_, _<_, _^_}
 use native.Mathlib.Omega.{arith}
 use lib.Dec.{T, ltb, ltb→lt, nltb→le, lit<}
 use lib.ListN.{length, getD, set, drop, replicate}
@@ -23,13 +22,13 @@ use ghost.Atoms.{Atoms, sem}
 use sound.WpLaws.{FmC, fmOf, WpFn-mono}
 use contract.Monad.{Fun, fact}
 use contract.Running.{givenOf, tables, tablesOf}
-use types.Kit.{Given, Item, ‵, raw, _⊛_, some, later, runs, anyQ, atRet, Sq, ⋆, _$_, _∵_, !, qed, by, move, keep, drop as drop′, use0, use1, use2, split, join, pick, rewrite, fsplit, fjoin, fpick, fpack, feqL, feqI, suffices, frame, await, done}
+use types.Kit.{Given, Item, ‵, raw, _⊛_, some, later, runs, anyQ, atRet, Sq, ⋆, _$_, _∵_, !, qed, by, move, keep, drop as drop′, use0, use1, split, join, pick, rewrite, fsplit, fjoin, fpick, fpack, feqL, feqI, suffices, frame, await, done}
 use types.Share.{arr-parts}
 use types.Part.{whole, sub, look-in}
 use types.Run.{look, look-raw, init, store, store-raw, forget, stop, hop, fld, from, load, lit, of-opd, bin, addr, no-more, land, assigns, assigns-last, first, skips, jumps, blocks, branches, returns, enter, alloc1, alloc0, params1, pass1, pass0, free1, free0, exec, Below, again, loops}
 use denote.RattleType.{RattleType, owns}
 use denote.Laws.{Is, Makes, Lawful, shows}
-use denote.Plain.{uint-vals, uint-tells, uint-makes}
+use denote.Plain.{uint-vals, uint-tells}
 use denote.Builtin.{usize, SliceRefOf}
 use denote.Signature.{Slot, plain}
 use denote.Array.{Array, arrayVal, array-makes, array-tells, array-lawful}
@@ -46,25 +45,24 @@ use denote.Triple.Entry.{Vals, onEntry}
 use denote.Triple.Spec.{Meets, tripleOf}
 use denote.Triple.Table.{entered, cited}
 use denote.Triple.Clauses.{ensured, lasts}
-use denote.Triple.Walked.{says, needs, Stays, stay-dropped, walkOf, goes-dropped, Walks, ends-at, walked, walk-meets}
+use denote.Triple.Walked.{says, needs, Stays, stay-dropped, walkOf, goes-dropped, ends-at, walked, walk-meets}
 use denote.Exit.{yes}
 use Rattle.forcing.specs.declared.list.Line.{Line}
 use Rattle.forcing.specs.List.{blank, lineAt}
 use Rattle.forcing.proofs.list.Line as T
 use Rattle.forcing.proofs.list.Line.Laws as T′
-use Rattle.common.specs.Loops.{filled}
-use Rattle.common.proofs.Loops.{filled-length}
+use Rattle.common.proofs.Loops.{filled-length, Filling, fill-begin, fill-turn, fill-end}
 use Rattle.basin.specs.Week.{stepLines}
-use Rattle.basin.proofs.week.Walk.{later-part}
-use Rattle.basin.proofs.week.blank_lines as blanks
-use Rattle.basin.proofs.week.blank_lines.Symbol as blanks-def
-use Rattle.basin.proofs.week.blank_lines.Symbol.{name as #blank-lines}
-use Rattle.basin.proofs.week.blank_lines.Met as blanks-thm
-use Rattle.basin.proofs.week.lines_of.Key.{name as #lines-of}
-use Rattle.basin.proofs.week.lines_of as lines-of
-use Rattle.basin.proofs.week.lines_of.Statement as stated
-use Rattle.basin.proofs.week.lines_of.Code as code
-use Rattle.basin.proofs.week.lines_of.Code.Mir as body
+use Rattle.week.proofs.Walk.{later-part}
+use Rattle.week.proofs.blank_lines as blanks
+use Rattle.week.proofs.blank_lines.Symbol as blanks-def
+use Rattle.week.proofs.blank_lines.Symbol.{name as #blank-lines}
+use Rattle.week.proofs.blank_lines.Met as blanks-thm
+use Rattle.week.proofs.lines_of.Key.{name as #lines-of}
+use Rattle.week.proofs.lines_of as lines-of
+use Rattle.week.proofs.lines_of.Statement as stated
+use Rattle.week.proofs.lines_of.Code as code
+use Rattle.week.proofs.lines_of.Code.Mir as body
 
 abbrev R : RattleType
 R = T.the-row
@@ -107,26 +105,15 @@ module _ {M : Type 1} (𝓤 : URA M) (H : Heap 𝓤) (A : Atoms 𝓤) (W : Given
       suffices ! _ (ends-at 𝓤 H A lines-of.ended stayed (lines-of.clauses 𝓤 H A mem run) W bound v r (tt, (tt, (tt, tt))) (tt, (tt, (tt, tt)))) $ says ! e $
       frame ! $ nothing ! $ nothing ! $ fjoin ! $ nothing ! $ fjoin ! $ nothing ! $ fjoin ! $ frame ! $ done !
 
-  -- the places after k turns
-  abbrev placed : ℕ → List Line
-  placed k = filled (λ j. lineAt (drop start ys) j) k (replicate 32 blank)
+  line-here : (k : ℕ) → getD ys (start + k) blank ≡ lineAt (drop start ys) k
+  line-here k = sym (getD-drop start ys k blank)
 
-  line-here : (k : ℕ) → lineAt (drop start ys) k ≡ getD ys (start + k) blank
-  line-here k = getD-drop start ys k blank
-
-  placed-none : replicate 32 blank ≡ placed 0
-  unfolding filled
-  placed-none = refl
-
-  placed-next : (k : ℕ) → set (placed k) k (getD ys (start + k) blank) ≡ placed (k + 1)
-  unfolding filled
-  placed-next k = rw (add-one k, line-here k)
-
-  placed-long : (k : ℕ) → length (placed k) ≡ 32
-  placed-long k = filled-length (λ j. lineAt (drop start ys) j) k (replicate 32 blank)
-
+  -- k, and the places that are filled so far
   abbrev Upto : Type 0
-  Upto = (k : ℕ) × (k ≤ n)
+  Upto = (k : ℕ) × ((ls : List Line) × Filling (λ j. lineAt (drop start ys) j) (replicate 32 blank) n k ls)
+
+  places-long : (i : Upto) → length (i .1 .0) ≡ 32
+  places-long i = ap length (i .1 .1 .so-far) ∙ filled-length (λ j. lineAt (drop start ys) j) (i .0) (replicate 32 blank)
 
   abbrev Nearer : Upto → Upto → Type 0
   Nearer j i = n - j .0 < n - i .0
@@ -208,7 +195,7 @@ module _ {M : Type 1} (𝓤 : URA M) (H : Heap 𝓤) (A : Atoms 𝓤) (W : Given
           ‵ (froom tyPtr l₁₄ 0) ∷ ‵ (fdies tyPtr l₁₄) ∷ ‵ (froom tyPtr l₁₃ 0) ∷ ‵ (fdies tyPtr l₁₃) ∷ ‵ (froom word l₁₂ 0) ∷ ‵ (fdies word l₁₂)
           ∷ ‵ (froom line-ty l₁₁ 0) ∷ ‵ (fdies line-ty l₁₁) ∷ ‵ (froom tyPtr l₁₀ 0) ∷ ‵ (fdies tyPtr l₁₀) ∷ ‵ (froom word l₉ 0) ∷ ‵ (fdies word l₉)
           ∷ ‵ (froom word l₈ 0) ∷ ‵ (fdies word l₈) ∷ ‵ (froom tyBool l₇ 0) ∷ ‵ (fdies tyBool l₇) ∷ ‵ (froom places-ty l₆ 0) ∷ ‵ (fdies places-ty l₆)
-          ∷ ‵ (fat fullShare word l₅ 0 (vint w64 (i .0))) ∷ ‵ (fdies word l₅) ∷ ‵ (row R fullShare (placed (i .0)) l₄ 0) ∷ ‵ (fdies places-ty l₄)
+          ∷ ‵ (fat fullShare word l₅ 0 (vint w64 (i .0))) ∷ ‵ (fdies word l₅) ∷ ‵ (row R fullShare (i .1 .0) l₄ 0) ∷ ‵ (fdies places-ty l₄)
           ∷ ‵ (fat fullShare word l₃ 0 (vint w64 n)) ∷ ‵ (fdies word l₃) ∷ ‵ (fat fullShare word l₂ 0 (vint w64 start)) ∷ ‵ (fdies word l₂)
           ∷ ‵ (fat fullShare slice-ty l₁ 0 (sliceVal (x .ptr) (length ys))) ∷ ‵ (fdies slice-ty l₁) ∷ ‵ (froom places-ty l₀ 0) ∷ ‵ (fdies places-ty l₀)
           ∷ (‵ (flft κ q) ⊛ ‵ ftrue) ∷ ‵ Own ∷ []
@@ -224,28 +211,29 @@ module _ {M : Type 1} (𝓤 : URA M) (H : Heap 𝓤) (A : Atoms 𝓤) (W : Given
       ends : (i : Upto) → n ≤ i .0 → Sq W (At i) (runs C Λ En body.t-5 (atRet En Post))
       unfolding partOf
       ends i over =
-          let k = i .0 in
-          move ! (20 ∷ []) $ feqI ! ℕ (length (placed k)) 32 (placed-long k) $ fjoin ! $ use1 W (‵ (partAt Places fullShare (placed k) l₄ 0)) (array-whole 𝓤 H A W R fullShare 32 (placed k) l₄ 0) $
-          fpick ! (λ vs. fsplit ! $ move ! (1 ∷ []) $ peeks ! Places (Is Places) (shows 𝓤 H A Places) (placed k) vs (λ is.
-          rewrite ! 0 (λ (us : List Val). ‵ (Places .own (placed k) us)) (places-told (placed k) vs is) refl $
-          rewrite ! 1 (λ (us : List Val). ‵ (cellAt fullShare (Places .mir) us l₄ 0)) (places-told (placed k) vs is) refl $
-          move ! (1 ∷ []) $ use1 W (‵ (fat fullShare places-ty l₄ 0 (places-val (placed k)))) (W .laws .raw-at fullShare places-ty l₄ 0 (places-val (placed k))) $
+          let ls = i .1 .0 in
+          move ! (20 ∷ []) $ feqI ! ℕ (length ls) 32 (places-long i) $ fjoin ! $ use1 W (‵ (partAt Places fullShare ls l₄ 0)) (array-whole 𝓤 H A W R fullShare 32 ls l₄ 0) $
+          fpick ! (λ vs. fsplit ! $ move ! (1 ∷ []) $ peeks ! Places (Is Places) (shows 𝓤 H A Places) ls vs (λ is.
+          rewrite ! 0 (λ (us : List Val). ‵ (Places .own ls us)) (places-told ls vs is) refl $
+          rewrite ! 1 (λ (us : List Val). ‵ (cellAt fullShare (Places .mir) us l₄ 0)) (places-told ls vs is) refl $
+          move ! (1 ∷ []) $ use1 W (‵ (fat fullShare places-ty l₄ 0 (places-val ls))) (W .laws .raw-at fullShare places-ty l₄ 0 (places-val ls)) $
           -- [_4; what the places own; _14; …; (_4's right to be freed); …]
-          assigns ! (of-opd ! (load ! (from ! (stop !)) (look ! 0 refl))) (from ! (stop !)) (init ! 29 refl (places-lawful .typed (placed k) (places-val (placed k) ∷ []) (subst (Is Places (placed k)) (places-told (placed k) vs is) is) .0)) $
+          assigns ! (of-opd ! (load ! (from ! (stop !)) (look ! 0 refl))) (from ! (stop !)) (init ! 29 refl (places-lawful .typed ls (places-val ls ∷ []) (subst (Is Places ls) (places-told ls vs is) is) .0)) $
           returns ! (look ! 29 refl) $ forget ! 0 refl $ forget ! 20 refl $ forget ! 23 refl $ forget ! 25 refl $ forget ! 27 refl $ forget ! 29 refl $
           move ! (29 ∷ 30 ∷ []) $ free1 ! $ move ! (27 ∷ 28 ∷ []) $ free1 ! $ move ! (25 ∷ 26 ∷ []) $ free1 ! $ move ! (23 ∷ 24 ∷ []) $ free1 ! $
           move ! (0 ∷ 22 ∷ []) $ free1 ! $ move ! (19 ∷ 20 ∷ []) $ free1 ! $ move ! (17 ∷ 18 ∷ []) $ free1 ! $ move ! (15 ∷ 16 ∷ []) $ free1 ! $
           move ! (13 ∷ 14 ∷ []) $ free1 ! $ move ! (11 ∷ 12 ∷ []) $ free1 ! $ move ! (9 ∷ 10 ∷ []) $ free1 ! $ move ! (7 ∷ 8 ∷ []) $ free1 ! $
           move ! (5 ∷ 6 ∷ []) $ free1 ! $ move ! (3 ∷ 4 ∷ []) $ free1 ! $ move ! (1 ∷ 2 ∷ []) $ free1 ! $ free0 ! $ keep ! (1 ∷ 0 ∷ []) $
-          by ! (exits (placed k) (places-val (placed k)) (ap placed (omega (arith, i .1))))))
+          by ! (exits ls (places-val ls) (fill-end (i .1 .1) over))))
 
       -- a turn: the line is read, and stored in its place
       goes : (i : Upto) → i .0 < n → Sq W (At i) (runs C Λ En more (anyQ (Turned i)))
       unfolding afterTurn
       goes i less =
           let k = i .0 in
+          let ls = i .1 .0 in
           let at-k : start + k < length ys = omega arith in
-          let in-k : k < length (placed k) = omega (arith, placed-long k) in
+          let in-k : k < length ls = omega (arith, places-long i) in
           let line : Line = getD ys (start + k) blank in
           assigns ! (bin ! (load ! (from ! (stop !)) (look ! 24 refl)) (load ! (from ! (stop !)) (look ! 18 refl)) (record { fits = omega (arith, room .0) })) (from ! (stop !)) (init ! 12 refl (tt, record { fits = omega (arith, room .0) })) $
           assigns ! (bin ! (load ! (from ! (stop !)) (look ! 12 refl)) (lit ! tt) (record { fits = omega (arith, room .1) })) (from ! (stop !)) (init ! 10 refl (tt, record { fits = omega (arith, room .1) })) $
@@ -266,16 +254,15 @@ module _ {M : Type 1} (𝓤 : URA M) (H : Heap 𝓤) (A : Atoms 𝓤) (W : Given
           assigns ! (bin ! (load ! (from ! (stop !)) (look ! 4 refl)) (load ! (from ! (stop !)) (look ! 6 refl)) tt) (from ! (stop !)) (init ! 2 refl (tt, tt)) $
           rewrite ! 2 (λ (p : ℕ). ‵ (fat fullShare tyPtr l₁₄ 0 (vptr l₄ p))) (sym (place-is 12 0 k)) refl $
           move ! (22 ∷ []) $
-          elem-out ! R (Is R) (shows 𝓤 H A R) (LL.vals T.the-type T′.the-laws) (LL.tells T.the-type T′.the-laws) fullShare (placed k) k blank l₄ 0 in-k (λ was.
+          elem-out ! R (Is R) (shows 𝓤 H A R) (LL.vals T.the-type T′.the-laws) (LL.tells T.the-type T′.the-laws) fullShare ls k blank l₄ 0 in-k (λ was.
           -- [the place; what was there owns; the others; the token; what the slice owns; _14; …]
           assigns ! (of-opd ! (load ! (from ! (stop !)) (look ! 11 refl))) (from ! (hop ! (look ! 5 refl) (stop !))) (store-raw ! 0 refl (line-lawful .typed line _ is .0)) $
           move ! (1 ∷ []) $ drop′ ! $ owned ! R (Is R) line-makes line (LL.vals T.the-type T′.the-laws line) is $ move ! (1 ∷ 0 ∷ []) $
-          elem-put ! R fullShare (placed k) k line (LL.vals T.the-type T′.the-laws line) l₄ 0 in-k $
-          rewrite ! 0 (λ (l : List Line). ‵ (row R fullShare l l₄ 0)) (placed-next k) refl $
+          elem-put ! R fullShare ls k line (LL.vals T.the-type T′.the-laws line) l₄ 0 in-k $
           assigns-last ! (bin ! (load ! (from ! (stop !)) (look ! 21 refl)) (lit ! tt) (record { fits = omega arith })) (from ! (stop !)) (store ! 21 refl (tt, record { fits = omega arith })) $
           forget ! 3 refl $ forget ! 5 refl $ forget ! 7 refl $ forget ! 9 refl $ forget ! 11 refl $ forget ! 13 refl $ forget ! 15 refl $
           keep ! (3 ∷ 4 ∷ 5 ∷ 6 ∷ 7 ∷ 8 ∷ 9 ∷ 10 ∷ 11 ∷ 12 ∷ 13 ∷ 14 ∷ 15 ∷ 16 ∷ 17 ∷ 18 ∷ 19 ∷ 20 ∷ 21 ∷ 22 ∷ 0 ∷ 23 ∷ 24 ∷ 25 ∷ 26 ∷ 27 ∷ 28 ∷ 29 ∷ 30 ∷ 31 ∷ 1 ∷ 2 ∷ []) $
-          again ! Nearer At i (k + 1, omega arith) (omega arith))))
+          again ! Nearer At i (k + 1, (set ls k line, fill-turn (i .1 .1) less (line-here k))) (omega arith))))
 
       turns : (i : Upto) → Sq W (At i) (runs C Λ En body.turn-1 (anyQ (Turned i)))
       unfolding afterTurn
@@ -310,12 +297,12 @@ module _ {M : Type 1} (𝓤 : URA M) (H : Heap 𝓤) (A : Atoms 𝓤) (W : Given
           move ! (21 ∷ []) $ use1 W (‵ (cellAt fullShare (Places .mir) (w ∷ []) l₄ 0)) (W .laws .at-raw fullShare places-ty l₄ 0 w) $ fjoin ! $
           fpack ! (List Val) (λ vs. fsep (cellAt fullShare (Places .mir) vs l₄ 0) (Places .own r vs)) (w ∷ []) $
           use1 W (‵ (arr-parts (shares R) 32 .part fullShare r l₄ 0)) (array-apart 𝓤 H A W R fullShare tt 32 r l₄ 0) $ fsplit ! $ feqL ! (λ long.
-          rewrite ! 0 (λ (l : List Line). ‵ (row R fullShare l l₄ 0)) (e ∙ placed-none) refl $
+          rewrite ! 0 (λ (l : List Line). ‵ (row R fullShare l l₄ 0)) e refl $
           -- [the places; _14; …; (_4's right to be freed); …]
           assigns ! (of-opd ! (lit ! tt)) (from ! (stop !)) (init ! 19 refl (tt, record { fits = lit< tt })) $ forget ! 17 refl $
           move ! (31 ∷ []) $ fsplit ! $ move ! (1 ∷ []) $ drop′ ! $
           keep ! (2 ∷ 3 ∷ 4 ∷ 5 ∷ 6 ∷ 7 ∷ 8 ∷ 9 ∷ 10 ∷ 11 ∷ 12 ∷ 13 ∷ 14 ∷ 15 ∷ 16 ∷ 17 ∷ 18 ∷ 19 ∷ 20 ∷ 21 ∷ 1 ∷ 22 ∷ 23 ∷ 24 ∷ 25 ∷ 26 ∷ 27 ∷ 28 ∷ 29 ∷ 30 ∷ 31 ∷ 0 ∷ []) $ first ! $ blocks ! $
-          loops ! 𝓣 Nearer Nearer-wf At turns (0, zero-le))))))
+          loops ! 𝓣 Nearer Nearer-wf At turns (0, (replicate 32 blank, fill-begin)))))))
 
     walk : ent 𝓤 (onEntry 𝓤 H A lines-of.signature (κ, tt) (q, tt) (x, (start, (n, tt))) at) (WpFn 𝓤 H C Λ code.function (sliceVal (x .ptr) (length ys) ∷ vint w64 start ∷ vint w64 n ∷ []) Post)
     walk =
@@ -343,4 +330,4 @@ lines-of-spec 𝓤 H 𝓜 𝓖 𝓡 =
     entered 𝓤 H (tripleOf 𝓤 H (𝓖 .A) lines-of.signature (lines-of.spec 𝓤 H (𝓖 .A) (𝓜 .mem) (𝓡 .run)))
     (tables 𝓤 H 𝓜 𝓡 code.env .C) (tables 𝓤 H 𝓜 𝓡 code.env .Λ) #lines-of code.function (code.unfolded 𝓤 H 𝓜 𝓡)
     (lines-of-meets 𝓤 H (𝓖 .A) (givenOf 𝓤 H 𝓜 𝓖) (𝓜 .mem) (𝓡 .run) (tablesOf 𝓤 H 𝓜 (tables 𝓤 H 𝓜 𝓡 code.env))
-    (cited 𝓤 H (Blanks 𝓤 H (𝓖 .A) (𝓜 .mem) (𝓡 .run)) 𝓜 𝓡 code.env #blank-lines blanks-def.routine code.calls-basin·week·blank-lines (blanks-thm.met 𝓤 H 𝓜 𝓖 𝓡)))
+    (cited 𝓤 H (Blanks 𝓤 H (𝓖 .A) (𝓜 .mem) (𝓡 .run)) 𝓜 𝓡 code.env #blank-lines blanks-def.routine code.calls-week·blank-lines (blanks-thm.met 𝓤 H 𝓜 𝓖 𝓡)))

@@ -1,19 +1,19 @@
--- `basin::week::begin` meets its contract: each way out is a law of the week. Assumes nothing.
+-- `week::begin` meets its contract: each way out is a law of the week. Assumes nothing.
 use mathlib.Core.Path.{sym, _∙_}
 use native.Mathlib.Omega.{arith}
 use borrow.Author.Needs.{needs}
-use Rattle.basin.proofs.limits.LimitsLaws.{BasinIn, basin-limits}
-use Rattle.basin.proofs.week.WeekLaws.{begun-whole, begun-length, begun-nine}
-use Rattle.basin.proofs.week.begin.Statement.{statement}
-use Rattle.basin.proofs.week.begin.Tie as tie
+use Rattle.basin.proofs.week.WeekLaws.{count-in}
+use Rattle.week.proofs.GoingLaws.{begun-whole, begun-length, begun-nine}
+use Rattle.week.proofs.begin.Statement.{statement}
+use Rattle.week.proofs.begin.Tie as tie
 
 whole-steps-requires : tie.Need-whole-steps-requires
-whole-steps-requires c κs = let h = basin-limits _ (sym (c .before .allowed .ensures .0) ∙ c .if1 .taken) in (h .n-least, h .n-most)
+whole-steps-requires c κs = count-in _ (sym (c .before .allowed .ensures .0) ∙ c .if1 .taken)
 
 div-t8 : tie.Need-div-t8
 div-t8 c =
     let at = c .before .before .before in
-    omega (arith, basin-limits _ (sym (at .before .allowed .ensures .0) ∙ at .if1 .taken) .n-least)
+    omega (arith, count-in _ (sym (at .before .allowed .ensures .0) ∙ at .if1 .taken) .0)
 
 returns : tie.Need-returns
 returns c =
