@@ -28,6 +28,15 @@ pub struct Report {
     pub estimated: u64,
 }
 
+// The report of a step that is refused.
+pub const ZEROS: Report = Report {
+    rain: 0,
+    evapotranspiration: 0,
+    outlet: 0,
+    content: 0,
+    estimated: 0,
+};
+
 // What a step hands back: number and place are 0 where it is accepted.
 pub struct Outcome {
     pub number: u64,
@@ -80,13 +89,7 @@ fn refuse(b: Basin, number: u64, place: u64) -> Outcome
         number,
         place,
         basin: b,
-        report: Report {
-            rain: 0,
-            evapotranspiration: 0,
-            outlet: 0,
-            content: 0,
-            estimated: 0,
-        },
+        report: ZEROS,
     }
 }
 

@@ -9,6 +9,7 @@ use basin::state;
 use basin::state::Basin;
 use basin::step;
 use basin::step::Report;
+use basin::step::ZEROS;
 use basin::week::Ran;
 use curve::capacity;
 use curve::capacity::Roots;
@@ -126,13 +127,7 @@ fn nothing_taken(b: Basin, number: u64) -> Ran
         place: 0,
         basin: b,
         count: 0,
-        report: Report {
-            rain: 0,
-            evapotranspiration: 0,
-            outlet: 0,
-            content: 0,
-            estimated: 0,
-        },
+        report: ZEROS,
     }
 }
 

@@ -4,6 +4,7 @@ use basin::state::Basin;
 use basin::step;
 use basin::step::Outcome;
 use basin::step::Report;
+use basin::step::ZEROS;
 use basin::week::Ran;
 use common::amounts;
 use forcing::list::Line;
@@ -97,12 +98,6 @@ fn untaken(basin: Basin, number: u64) -> Ran {
         place: 0,
         basin,
         count: 0,
-        report: Report {
-            rain: 0,
-            evapotranspiration: 0,
-            outlet: 0,
-            content: 0,
-            estimated: 0,
-        },
+        report: ZEROS,
     }
 }
