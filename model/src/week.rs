@@ -21,13 +21,34 @@ impl Basin {
     /// The week call: 9 is judged first, then the length, then the steps in order up to the first that is refused.
     pub fn week(self, lines: &[Line]) -> Ran {
         let mut ran = Ran::none(self);
-        let n = self.n as usize;
         if !self.inside() {
             ran.number = 9;
-        } else if lines.len() > MOST_STEPS * n || lines.len() % n > 0 {
+            return ran;
+        }
+        // Inside, so N is 1..32.
+        let n = self.n as usize;
+        if lines.len() > MOST_STEPS * n || lines.len() % n != 0 {
             ran.number = 5;
-        } else {
-            ran.take(lines.chunks(n));
+            return ran;
+        }
+        for step in 0..lines.len() / n {
+            let mut own = [Line { rain: Reading::Missing, pan: 0.0 }; MOST_LINES];
+            for k in 0..n {
+                own[k] = lines[step * n + k];
+            }
+            let given = ran.basin.step(&own, n as u64);
+            // A refused step hands back the basin as it was.
+            ran.basin = given.basin;
+            if given.number != 0 {
+                (ran.number, ran.place) = (given.number, given.place);
+                return ran;
+            }
+            ran.count += 1;
+            ran.report.rain += given.report.rain;
+            ran.report.evapotranspiration += given.report.evapotranspiration;
+            ran.report.outlet += given.report.outlet;
+            ran.report.content = given.report.content;
+            ran.report.estimated += given.report.estimated;
         }
         ran
     }
@@ -39,7 +60,7 @@ impl Ran {
         Ran { number: 0, place: 0, basin, count: 0, report: Report::default() }
     }
 
-    /// Steps by their lines, up to the first that is refused.
+    /// Steps by their lines, up to the first that is refused: what the expectations run beside a week.
     pub fn take<'a>(&mut self, steps: impl Iterator<Item = &'a [Line]>) {
         for lines in steps {
             let given = self.basin.step(&listed(lines), lines.len() as u64);
