@@ -147,8 +147,56 @@ const LEADS: [(f32, f32); 49] = {
     leads
 };
 
+/// The curve as the text has it, in whole numbers alone, which tests compare with.
+#[cfg(test)]
+pub mod by_text {
+    use super::WHOLE;
+
+    /// Power with every root taken.
+    pub fn power(t: u64, e: u64) -> u64 {
+        let mut roots = [t; 5];
+        for i in 1..=4 {
+            roots[i] = (roots[i - 1] * WHOLE).isqrt();
+        }
+        let mut p = WHOLE;
+        for _ in 0..e / 16 {
+            p = p * t / WHOLE;
+        }
+        for (i, bit) in [(1, 8), (2, 4), (3, 2), (4, 1)] {
+            if (e % 16) & bit != 0 {
+                p = p * roots[i] / WHOLE;
+            }
+        }
+        p
+    }
+
+    pub fn held(c: u64, m: u64, e: u64, a: u64) -> u64 {
+        c - c * power((m - a) * WHOLE / m, e) / WHOLE
+    }
+
+    /// The greatest a of all 0..m with Held(a) ≤ w.
+    pub fn ordinate(c: u64, m: u64, e: u64, w: u64) -> u64 {
+        (0..=m).filter(|&a| held(c, m, e, a) <= w).max().unwrap()
+    }
+
+    /// The same by halving, since Held never falls: Held(low) ≤ w, and w < Held(high) or high > m.
+    pub fn ordinate_by_halving(c: u64, m: u64, e: u64, w: u64) -> u64 {
+        let (mut low, mut high) = (0, m + 1);
+        while high - low > 1 {
+            let middle = (low + high) / 2;
+            if held(c, m, e, middle) <= w {
+                low = middle;
+            } else {
+                high = middle;
+            }
+        }
+        low
+    }
+}
+
 #[cfg(test)]
 mod tests {
+    use super::by_text::ordinate_by_halving;
     use super::*;
     use crate::chance::Chance;
 
@@ -182,31 +230,13 @@ mod tests {
         }
     }
 
-    /// Power as the text has it, with every root taken, in whole numbers alone.
-    fn power_by_text(t: u64, e: u64) -> u64 {
-        let mut roots = [t; 5];
-        for i in 1..=4 {
-            roots[i] = (roots[i - 1] * WHOLE).isqrt();
-        }
-        let mut p = WHOLE;
-        for _ in 0..e / 16 {
-            p = p * t / WHOLE;
-        }
-        for (i, bit) in [(1, 8), (2, 4), (3, 2), (4, 1)] {
-            if (e % 16) & bit != 0 {
-                p = p * roots[i] / WHOLE;
-            }
-        }
-        p
-    }
-
     #[test]
     fn power_is_the_texts_and_grows() {
         for e in LEAST_E..=GREATEST_E {
             let mut last = 0;
             for t in 0..=WHOLE {
                 let p = power_of(t, e);
-                assert_eq!(p, power_by_text(t, e), "Power({t}, {e})");
+                assert_eq!(p, by_text::power(t, e), "Power({t}, {e})");
                 assert!(p >= last, "Power({t}, {e}) falls");
                 last = p;
             }
@@ -220,7 +250,7 @@ mod tests {
             let mut least = 0;
             let mut strayed = 0;
             for need in 0..=WHOLE {
-                while power_by_text(least, e) < need {
+                while by_text::power(least, e) < need {
                     least += 1;
                 }
                 assert_eq!(least_share(need, e), least, "need {need} e {e}");
@@ -228,29 +258,6 @@ mod tests {
             }
             assert!(strayed < WHOLE, "e {e}: {strayed}");
         }
-    }
-
-    fn held_by_text(c: u64, m: u64, e: u64, a: u64) -> u64 {
-        c - c * power_by_text((m - a) * WHOLE / m, e) / WHOLE
-    }
-
-    /// Ordinate as the text has it: the greatest a of all 0..m with Held(a) ≤ w.
-    fn ordinate_by_text(c: u64, m: u64, e: u64, w: u64) -> u64 {
-        (0..=m).filter(|&a| held_by_text(c, m, e, a) <= w).max().unwrap()
-    }
-
-    /// The same by halving, since Held never falls: Held(low) ≤ w, and w < Held(high) or high > m.
-    fn ordinate_by_halving(c: u64, m: u64, e: u64, w: u64) -> u64 {
-        let (mut low, mut high) = (0, m + 1);
-        while high - low > 1 {
-            let middle = (low + high) / 2;
-            if held_by_text(c, m, e, middle) <= w {
-                low = middle;
-            } else {
-                high = middle;
-            }
-        }
-        low
     }
 
     /// The ordinates at w of both ends, beside them and between.
@@ -266,7 +273,7 @@ mod tests {
         for c in [1, 2, 7, 100, 65_535, 65_536, 65_537, 500_000] {
             for m in [1, 2, 7, 100, 1_000, 70_000] {
                 for e in [16, 17, 24, 31, 32, 40, 48] {
-                    hold_ordinates(c, m, e, ordinate_by_text);
+                    hold_ordinates(c, m, e, by_text::ordinate);
                 }
             }
         }

@@ -115,8 +115,16 @@ pub fn print(out: &mut impl Write) -> io::Result<()> {
         (brimming(0), GREATEST_RAIN, GREATEST_PAN),
         (brimming(65_535), GREATEST_RAIN, GREATEST_PAN),
     ] {
-        let after = start.with(RAIN, rain).print(out)?;
-        Call::of(&after, 0, pan).print(out)?;
+        rain_then_pan(start, rain, pan, out)?;
+    }
+    for start in [case_a(), middling(), brimming(0)] {
+        for rain in [4_999, 5_000, 5_001, 9_999, 10_000, 10_001, GREATEST_RAIN] {
+            rain_then_pan(start, rain, 10_000, out)?;
+        }
+    }
+    // EP is 10,000.
+    for pe in [4_999, 5_000, 5_001, 10_000, 10_001] {
+        case_a().with(RAIN, pe + 10_000).with(PAN, 10_000).print(out)?;
     }
     for call in [case_a(), middling()] {
         limit_lines(call, out)?;
@@ -134,6 +142,13 @@ pub fn print(out: &mut impl Write) -> io::Result<()> {
     each_word(out)?;
     drawn("corner", corner, spells, out)?;
     drawn("any", any, mixed, out)
+}
+
+/// Two steps in full: rain alone, then pan alone.
+fn rain_then_pan(start: Call, rain: u64, pan: u64, out: &mut impl Write) -> io::Result<()> {
+    let after = start.with(RAIN, rain).print(out)?;
+    Call::of(&after, 0, pan).print(out)?;
+    Ok(())
 }
 
 #[rustfmt::skip]
