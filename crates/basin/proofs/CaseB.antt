@@ -13,7 +13,6 @@ use Rattle.common.specs.Loops.{run, filled, sumOf, every, firstBad}
 use Rattle.common.specs.Bytes.{wordAt}
 use Rattle.common.specs.Weather.{calm}
 use Rattle.curve.specs.Store.{outflow, content}
-use Rattle.curve.proofs.capacity.FastLaws.{fastRise, rise-fast}
 use Rattle.forcing.specs.declared.list.Forcing.{Forcing}
 use Rattle.forcing.specs.Depth.{numerator, denominator, nearest, depthOf, fromZeroTo, unfit, aboveLimit, numberOf}
 use Rattle.forcing.specs.List.{weatherOf, lineInside, isInside, lineNumber, refusal, judgedLines, reading}
@@ -21,11 +20,9 @@ use Rattle.subbasin.specs.declared.record.Contents.{Contents}
 use Rattle.subbasin.specs.declared.record.SubBasin.{SubBasin}
 use Rattle.subbasin.specs.declared.step.Stepped.{Stepped}
 use Rattle.subbasin.specs.Record.{ofWords, blankSub}
-use Rattle.subbasin.specs.Lag.{leaving, waitingAfter, entered}
 use Rattle.subbasin.specs.Content.{water}
-use Rattle.subbasin.specs.Soil.{ep, deeper, evaporated, mm, rb, gain, refilled, runoff}
-use Rattle.subbasin.specs.FreeWater.{ms, level, keep, parted}
 use Rattle.subbasin.specs.Step.{stepped}
+use Rattle.subbasin.proofs.step.FastLaws.{fastStepped, stepped-fast}
 use Rattle.basin.specs.declared.state.Basin.{Basin}
 use Rattle.basin.specs.declared.step.Outcome.{Outcome}
 use Rattle.basin.specs.declared.week.Ran.{Ran}
@@ -70,19 +67,19 @@ abbrev sub-1-a : SubBasin
 sub-1-a = with-contents sub-1 (record { wu = 0; wl = 0; wd = 28201; g = 1438; vi = 1004; vg = 3531 }) (7889 ∷ replicate 14 0) 0
 
 abbrev sub-2-a : SubBasin
-sub-2-a = with-contents sub-2 (record { wu = 15000; wl = 70000; wd = 45767; g = 3836; vi = 1388; vg = 3477 }) (107799 ∷ replicate 14 0) 0
+sub-2-a = with-contents sub-2 (record { wu = 15000; wl = 70000; wd = 45769; g = 6765; vi = 2046; vg = 5465 }) (91068 ∷ replicate 14 0) 0
 
 abbrev sub-1-c : SubBasin
-sub-1-c = with-contents sub-1 (record { wu = 12000; wl = 80000; wd = 36058; g = 1760; vi = 973; vg = 3741 }) (255094 ∷ replicate 14 0) 3551
+sub-1-c = with-contents sub-1 (record { wu = 12000; wl = 80000; wd = 36070; g = 3766; vi = 1453; vg = 4302 }) (233681 ∷ replicate 14 0) 3551
 
 abbrev sub-2-c : SubBasin
-sub-2-c = with-contents sub-2 (record { wu = 0; wl = 50501; wd = 45767; g = 1919; vi = 1473; vg = 4675 }) (1902 ∷ 107799 ∷ replicate 13 0) 0
+sub-2-c = with-contents sub-2 (record { wu = 0; wl = 50501; wd = 45769; g = 3384; vi = 2295; vg = 7598 }) (2997 ∷ 91068 ∷ replicate 13 0) 0
 
 abbrev sub-1-d : SubBasin
-sub-1-d = with-contents sub-1 (record { wu = 10000; wl = 80000; wd = 36058; g = 1012; vi = 778; vg = 3726 }) (6706 ∷ replicate 14 0) 116390
+sub-1-d = with-contents sub-1 (record { wu = 10000; wl = 80000; wd = 36070; g = 2166; vi = 1317; vg = 4565 }) (10311 ∷ replicate 14 0) 106754
 
 abbrev sub-2-d : SubBasin
-sub-2-d = with-contents sub-2 (record { wu = 15000; wl = 51199; wd = 45767; g = 3519; vi = 1896; vg = 6923 }) (14496 ∷ 1902 ∷ replicate 13 0) 32341
+sub-2-d = with-contents sub-2 (record { wu = 15000; wl = 51201; wd = 45769; g = 3918; vi = 2602; vg = 10029 }) (17487 ∷ 2997 ∷ replicate 13 0) 27321
 
 file-basin-b : fileBasin file-b ≡ basin-of sub-1 sub-2 0
 unfolding fileBasin filled fileSub fileReach wordAt
@@ -144,52 +141,28 @@ after-step s eu el ed rb r rs ri rg q =
     record { number = 0; place = 0; after = s; eu = eu; el = el; ed = ed; rb = rb; r = r; rs = rs; ri = ri; rg = rg; q = q }
 
 step-1-a : stepped sub-1 (fallen 1000 30000) ≡ after-step sub-1-a 10000 1000 1799 0 0 0 625 437 0
-unfolding stepped evaporated deeper ep runoff parted keep outflow content leaving waitingAfter entered
-step-1-a = refl
+unfolding fastStepped
+step-1-a = stepped-fast _ _
 
-gain-2-a : gain (sub-2 .fixed) 55000 117801 111911 ≡ 75767
-unfolding gain mm fastRise
-gain-2-a = simp rise-fast
+step-2-a : stepped sub-2 (fallen 120500 3000) ≡ after-step sub-2-a 2699 0 0 5890 36142 23615 2028 4734 0
+unfolding fastStepped
+step-2-a = stepped-fast _ _
 
-keep-2-a : keep (sub-2 .fixed) 1000 117801 36144 ≡ 7670
-unfolding keep level ms fastRise
-keep-2-a = simp rise-fast
+step-1-c : stepped sub-1-a (fallen 140000 4000) ≡ after-step sub-1-c 3200 0 0 13680 23251 18141 1637 1145 4338
+unfolding fastStepped
+step-1-c = stepped-fast _ _
 
-step-2-a : stepped sub-2 (fallen 120500 3000) ≡ after-step sub-2-a 2699 0 0 5890 36144 29474 1150 2684 0
-unfolding stepped evaporated ep runoff rb refilled parted outflow content leaving waitingAfter entered
-step-2-a = rw (gain-2-a, keep-2-a)
+step-2-c : stepped sub-2-a (fallen 1500 40000) ≡ after-step sub-2-c 16500 19499 0 0 0 0 1014 2367 0
+unfolding fastStepped
+step-2-c = stepped-fast _ _
 
-gain-1-c : gain (sub-1 .fixed) 28201 136800 123120 ≡ 99857
-unfolding gain mm fastRise
-gain-1-c = simp rise-fast
+step-1-d : stepped sub-1-c (fallen 0 2500) ≡ after-step sub-1-d 2000 0 0 0 0 0 941 659 130478
+unfolding fastStepped
+step-1-d = stepped-fast _ _
 
-keep-1-c : keep (sub-1 .fixed) 1438 136800 23263 ≡ 3060
-unfolding keep level ms fastRise
-keep-1-c = simp rise-fast
-
-step-1-c : stepped sub-1-a (fallen 140000 4000) ≡ after-step sub-1-c 3200 0 0 13680 23263 21641 765 535 4338
-unfolding stepped evaporated ep runoff rb refilled parted outflow content leaving waitingAfter entered
-step-1-c = rw (gain-1-c, keep-1-c)
-
-step-2-c : stepped sub-2-a (fallen 1500 40000) ≡ after-step sub-2-c 16500 19499 0 0 0 0 575 1342 0
-unfolding stepped evaporated deeper ep runoff parted keep outflow content leaving waitingAfter entered
-step-2-c = refl
-
-step-1-d : stepped sub-1-c (fallen 0 2500) ≡ after-step sub-1-d 2000 0 0 0 0 0 440 308 142255
-unfolding stepped evaporated deeper ep runoff parted keep outflow content leaving waitingAfter entered
-step-1-d = refl
-
-gain-2-d : gain (sub-2 .fixed) 96268 24801 23561 ≡ 15698
-unfolding gain mm fastRise
-gain-2-d = simp rise-fast
-
-keep-2-d : keep (sub-2 .fixed) 1919 24801 7863 ≡ 7036
-unfolding keep level ms fastRise
-keep-2-d = simp rise-fast
-
-step-2-d : stepped sub-2-c (fallen 25250 500) ≡ after-step sub-2-d 449 0 0 1240 7863 2746 1055 2462 75458
-unfolding stepped evaporated ep runoff rb refilled parted outflow content leaving waitingAfter entered
-step-2-d = rw (gain-2-d, keep-2-d)
+step-2-d : stepped sub-2-c (fallen 25250 500) ≡ after-step sub-2-d 449 0 0 1240 7861 3412 1174 2741 63747
+unfolding fastStepped
+step-2-d = stepped-fast _ _
 
 -- ---- what the calls hand back
 
@@ -203,7 +176,7 @@ abbrev outcome-3 : Outcome
 outcome-3 = record { number = 0; place = 0; basin = basin-of sub-1-c sub-2-c 3384; report = reported 984500 130397 954 1626459 1 }
 
 abbrev outcome-4 : Outcome
-outcome-4 = record { number = 0; place = 0; basin = basin-of sub-1-d sub-2-d 111907; report = reported 75750 15347 109190 1577672 1 }
+outcome-4 = record { number = 0; place = 0; basin = basin-of sub-1-d sub-2-d 102721; report = reported 75750 15347 94888 1591974 1 }
 
 taken-1 : taken (basin-of sub-1 sub-2 0) forcing-b1 ≡ outcome-1
 unfolding taken basinAfter sentBy rainVolume lossVolume outletVolume contentOf run filled sumOf send flows reachesAfter water sum outflow content
@@ -262,7 +235,7 @@ abbrev ran-2 : Ran
 ran-2 = record { number = 5; place = 0; basin = outcome-1 .basin; count = 0; report = reported 0 0 0 0 0 }
 
 abbrev ran-3 : Ran
-ran-3 = record { number = 0; place = 0; basin = outcome-4 .basin; count = 2; report = reported 1060250 145744 110144 1577672 2 }
+ran-3 = record { number = 0; place = 0; basin = outcome-4 .basin; count = 2; report = reported 1060250 145744 95842 1591974 2 }
 
 ruled-1 : ruleWeek (basin-of sub-1 sub-2 0) week-b1 ≡ ran-1
 unfolding fits together after ruleResults
@@ -308,7 +281,7 @@ rained-b : rains file-b calls-b ≡ 1428750
 unfolding rains rainOfLines isInside lineInside fromZeroTo every sumOf weatherOf ofBits depthOf nearest numerator denominator fileSub filled wordAt
 rained-b = refl
 
--- 1,577,672 + 353,578 = 502,500 + 1,428,750
+-- 1,591,974 + 339,276 = 502,500 + 1,428,750
 figures-said : (b : Basin) → StepsAccounted file-b b calls-b → Says file-b calls-b figures-b b
 unfolding losses
 figures-said b h =

@@ -12,7 +12,6 @@ use Rattle.common.specs.Loops.{run, filled, sumOf, every, firstBad}
 use Rattle.common.specs.Bytes.{wordAt}
 use Rattle.common.specs.Weather.{calm}
 use Rattle.common.specs.Cases.{Row, Agree}
-use Rattle.curve.specs.Store.{outflow, content}
 use Rattle.curve.specs.Cases.{curveCases}
 use Rattle.curve.proofs.Cases.{curve-cases}
 use Rattle.forcing.specs.declared.list.Forcing.{Forcing}
@@ -21,12 +20,10 @@ use Rattle.forcing.specs.List.{weatherOf, lineInside, isInside, lineNumber, ref
 use Rattle.forcing.proofs.Cases.{sixteenth}
 use Rattle.subbasin.specs.declared.record.SubBasin.{SubBasin}
 use Rattle.subbasin.specs.Record.{blankSub}
-use Rattle.subbasin.specs.Lag.{leaving, waitingAfter, entered}
 use Rattle.subbasin.specs.Content.{water}
-use Rattle.subbasin.specs.Soil.{ep, deeper, evaporated, runoff}
-use Rattle.subbasin.specs.FreeWater.{keep, parted}
 use Rattle.subbasin.specs.Step.{stepped}
 use Rattle.subbasin.specs.Cases.{case-a, stepCases}
+use Rattle.subbasin.proofs.step.FastLaws.{fastStepped, stepped-fast}
 use Rattle.subbasin.proofs.Cases.{step-a, step-cases}
 use Rattle.basin.specs.declared.state.Basin.{Basin}
 use Rattle.basin.specs.declared.step.Report.{Report}
@@ -52,7 +49,7 @@ abbrev after-1 : SubBasin
 after-1 =
     record {
       fixed = case-a .fixed;
-      contents = record { wu = 20000; wl = 60000; wd = 25000; g = 2222; vi = 556; vg = 556 };
+      contents = record { wu = 20000; wl = 60000; wd = 25030; g = 4862; vi = 1216; vg = 1216 };
       line = case-a .line;
       channel = 0;
     }
@@ -61,7 +58,7 @@ abbrev after-3 : SubBasin
 after-3 =
     record {
       fixed = case-a .fixed;
-      contents = record { wu = 10000; wl = 60000; wd = 25000; g = 1112; vi = 556; vg = 556 };
+      contents = record { wu = 10000; wl = 60000; wd = 25030; g = 2432; vi = 1216; vg = 1216 };
       line = case-a .line;
       channel = 0;
     }
@@ -118,23 +115,23 @@ step-3 : stepped after-1 (record { rain = 0; pan = 10000 })
       rb = 0;
       r = 0;
       rs = 0;
-      ri = 555;
-      rg = 555;
-      q = 1110;
+      ri = 1215;
+      rg = 1215;
+      q = 2430;
     }
-unfolding stepped evaporated deeper ep runoff parted keep outflow content leaving waitingAfter entered
-step-3 = refl
+unfolding fastStepped
+step-3 = stepped-fast _ _
 
--- ---- what the calls hand back: `1 ok 135000 0 26666 108334 0`, `2 refused 6 1`, `3 ok 0 10000 1110 97224 0`
+-- ---- what the calls hand back: `1 ok 135000 0 22676 112324 0`, `2 refused 6 1`, `3 ok 0 10000 2430 99894 0`
 
 abbrev outcome-1 : Outcome
-outcome-1 = record { number = 0; place = 0; basin = basin-of after-1; report = reported 135000 0 26666 108334 0 }
+outcome-1 = record { number = 0; place = 0; basin = basin-of after-1; report = reported 135000 0 22676 112324 0 }
 
 abbrev outcome-2 : Outcome
 outcome-2 = record { number = 6; place = 1; basin = basin-of after-1; report = reported 0 0 0 0 0 }
 
 abbrev outcome-3 : Outcome
-outcome-3 = record { number = 0; place = 0; basin = basin-of after-3; report = reported 0 10000 1110 97224 0 }
+outcome-3 = record { number = 0; place = 0; basin = basin-of after-3; report = reported 0 10000 2430 99894 0 }
 
 taken-1 : taken (basin-of case-a) forcing-1 ≡ outcome-1
 unfolding taken basinAfter sentBy rainVolume lossVolume outletVolume contentOf run filled sumOf send flows reachesAfter water sum
@@ -171,7 +168,7 @@ unfolding singles stepsOf
 singles-a = rw file-n-a (ap (λ (cs : List Call). cs ++ (call-3 ∷ [])) steps-a)
 
 abbrev ran-a : Ran
-ran-a = record { number = 6; place = 1; basin = basin-of after-1; count = 1; report = reported 135000 0 26666 108334 0 }
+ran-a = record { number = 6; place = 1; basin = basin-of after-1; count = 1; report = reported 135000 0 22676 112324 0 }
 
 ruled-a : ruleWeek (basin-of case-a) week-a ≡ ran-a
 unfolding fits together after ruleResults
@@ -231,7 +228,7 @@ agree-append : (xs ys : List Row) → Agree xs → Agree ys → Agree (xs ++ ys)
 agree-append [] ys h k = k
 agree-append (x ∷ xs) ys h k = (h .0, agree-append xs ys (h .1) k)
 
-first-reported : stepCall (loadCall file-a .basin) (call-1 .lines) 1 .report ≡ reported 135000 0 26666 108334 0
+first-reported : stepCall (loadCall file-a .basin) (call-1 .lines) 1 .report ≡ reported 135000 0 22676 112324 0
 unfolding results
 first-reported = ap first (account-a .says .reports-are)
   where

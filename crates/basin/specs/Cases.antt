@@ -1,5 +1,5 @@
 -- Document 01, "What the program prints" and "Proved cases": case A's file and calls, all proved cases as one table, and what demand 3
--- says of case A and of a second case, in figures.
+-- says of case A and of a second case, in figures. Those of a step are the second model's, by slices as document 02, No. 3, has it.
 use mathlib.Core.Path.{_≡_}
 use mathlib.Core.List.{List, [], _∷_, _++_, map}
 use Prim.Native.Nat.{ℕ, suc, _+_, _≤_}
@@ -69,7 +69,7 @@ entries-a = week week-a ∷ step call-3 ∷ []
 abbrev pub depthCases : List Row
 depthCases = row (depthOf (ofBits binary32 0x3d80_0000)) 63 ∷ []
 
--- "case A's first step": `1 ok 135000 0 26666 108334 0`
+-- "case A's first step", by slices: `1 ok 135000 0 22676 112324 0`
 abbrev pub firstOutcome : Outcome
 firstOutcome = stepCall (loadCall file-a .basin) (call-1 .lines) 1
 
@@ -77,8 +77,8 @@ abbrev pub outcomeCases : List Row
 outcomeCases =
     row (firstOutcome .report .rain) 135000
     ∷ row (firstOutcome .report .evapotranspiration) 0
-    ∷ row (firstOutcome .report .outlet) 26666
-    ∷ row (firstOutcome .report .content) 108334
+    ∷ row (firstOutcome .report .outlet) 22676
+    ∷ row (firstOutcome .report .content) 112324
     ∷ row (firstOutcome .report .estimated) 0
     ∷ []
 
@@ -181,12 +181,12 @@ figures-a =
     record {
       started = 0;
       rained = 135000;
-      lost = 37776;
-      left = 97224;
+      lost = 35106;
+      left = 99894;
       numbers = 0 ∷ 6 ∷ 0 ∷ [];
       places = 0 ∷ 1 ∷ 0 ∷ [];
-      reports = reported 135000 0 26666 108334 0 ∷ reported 0 0 0 0 0 ∷ reported 0 10000 1110 97224 0 ∷ [];
-      told = reported 135000 0 26666 108334 0 ∷ reported 0 10000 1110 97224 0 ∷ [];
+      reports = reported 135000 0 22676 112324 0 ∷ reported 0 0 0 0 0 ∷ reported 0 10000 2430 99894 0 ∷ [];
+      told = reported 135000 0 22676 112324 0 ∷ reported 0 10000 2430 99894 0 ∷ [];
       endings = ends 6 1 1 ∷ [];
       bounds = record { area = 1; um = 20000; lm = 60000; dm = 40000; sm = 20000 } ∷ [];
     }
@@ -255,17 +255,17 @@ figures-b =
     record {
       started = 502500;
       rained = 1428750;
-      lost = 353578;
-      left = 1577672;
+      lost = 339276;
+      left = 1591974;
       numbers = 0 ∷ 6 ∷ 0 ∷ 0 ∷ [];
       places = 0 ∷ 2 ∷ 0 ∷ 0 ∷ [];
       reports =
           reported 368500 97690 0 773310 0
           ∷ reported 0 0 0 0 0
           ∷ reported 984500 130397 954 1626459 1
-          ∷ reported 75750 15347 109190 1577672 1
+          ∷ reported 75750 15347 94888 1591974 1
           ∷ [];
-      told = reported 368500 97690 0 773310 0 ∷ reported 0 0 0 0 0 ∷ reported 1060250 145744 110144 1577672 2 ∷ [];
+      told = reported 368500 97690 0 773310 0 ∷ reported 0 0 0 0 0 ∷ reported 1060250 145744 95842 1591974 2 ∷ [];
       endings = ends 6 2 1 ∷ ends 5 0 0 ∷ ends 0 0 2 ∷ [];
       bounds =
           record { area = 7; um = 12000; lm = 80000; dm = 45000; sm = 18000 }

@@ -115,13 +115,20 @@ pub fn held_with(roots: &Roots, c: u64, m: u64, e: u64, a: u64) -> Answer
 pub fn ordinate_with(roots: &Roots, c: u64, m: u64, e: u64, w: u64) -> Answer
     ensures { λ r. ⌜ r ≡ ordinateCall c m e w ⌝ }
 {
+    ordinate_from(roots, c, m, e, w, 0)
+}
+
+// Ordinate, searched from a point. Whatever the point, the answer is the same, and from a near one it comes soonest; 0 stands for none.
+pub fn ordinate_from(roots: &Roots, c: u64, m: u64, e: u64, w: u64, start: u64) -> Answer
+    ensures { λ r. ⌜ r ≡ ordinateCall c m e w ⌝ }
+{
     if outside(c, m, e) {
         return refuse();
     }
     if c < w {
         return refuse();
     }
-    accept(ordinate_of(roots, c, m, e, w))
+    accept(ordinate_of(roots, c, m, e, w, start))
 }
 
 fn accept(v: u64) -> Answer
@@ -215,7 +222,7 @@ fn held_of(roots: &Roots, c: u64, m: u64, e: u64, a: u64) -> u64
 
 // The interval from lo to hi is narrowed: lo holds at most w, hi holds more. Where it is tried is a guess for the first turns
 // and then its middle; any point between lo and hi will do.
-fn ordinate_of(roots: &Roots, c: u64, m: u64, e: u64, w: u64) -> u64
+fn ordinate_of(roots: &Roots, c: u64, m: u64, e: u64, w: u64, start: u64) -> u64
     requires { ⌜ (c ≤ mostC) × (0 < m) × (m ≤ mostM) × (leastE ≤ e) × (e ≤ mostE) × (w ≤ c) ⌝ }
     ensures { λ r. ⌜ r ≡ ordinate c m e w ⌝ }
 {
@@ -226,7 +233,7 @@ fn ordinate_of(roots: &Roots, c: u64, m: u64, e: u64, w: u64) -> u64
     let need = ((c - w) * ONE + c - 1) / c;
     let mut lo = 0;
     let mut hi = m;
-    let mut next = guess(m, e, need, ONE, ONE);
+    let mut next = first_of(m, e, need, start);
     let mut turns = GUESSES;
     let a = loop {
         if hi - lo <= 1 {
@@ -243,6 +250,19 @@ fn ordinate_of(roots: &Roots, c: u64, m: u64, e: u64, w: u64) -> u64
         }
     };
     a
+}
+
+// Where the search begins: at the last ordinate of the start's share, or without a start at a guess.
+fn first_of(m: u64, e: u64, need: u64, start: u64) -> u64
+    requires { ⌜ (0 < m) × (m ≤ mostM) × (leastE ≤ e) × (e ≤ mostE) × (need ≤ one + 1) ⌝ }
+{
+    if start == 0 {
+        return guess(m, e, need, ONE, ONE);
+    }
+    if m <= start {
+        return guess(m, e, need, ONE, ONE);
+    }
+    last_of(m, (m - start) * ONE / m)
 }
 
 // Newton's step on the power from the share t, as the last ordinate of the share that it comes to, or the one after t's own.

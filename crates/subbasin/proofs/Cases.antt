@@ -1,23 +1,34 @@
 -- Case A of document 01, its first step over the definitions: one computation. Assumes nothing.
 use mathlib.Core.Path.{_≡_, refl}
+use Prim.Native.Nat.{ℕ}
 use lib.ListN.{replicate}
 use Rattle.common.specs.Cases.{Agree}
-use Rattle.curve.specs.Store.{outflow, content}
-use Rattle.curve.proofs.capacity.FastLaws.{fastRise, rise-fast}
-use Rattle.subbasin.specs.Soil.{ep, evaporated, mm, rb, gain, refilled, runoff}
-use Rattle.subbasin.specs.FreeWater.{ms, level, keep, parted}
-use Rattle.subbasin.specs.Lag.{leaving, waitingAfter, entered}
-use Rattle.subbasin.specs.Step.{stepped}
-use Rattle.subbasin.specs.Cases.{case-a, weather-a, stepCases}
+use Rattle.curve.specs.Store.{outflow}
+use Rattle.subbasin.specs.declared.step.Stepped.{Stepped}
+use Rattle.subbasin.specs.Step.{stepped, steppedWhole}
+use Rattle.subbasin.specs.Cases.{case-a, weather-a, wholeRain, slicedRain, stepCases}
+use Rattle.subbasin.proofs.slices.FastLaws.{fastSliced, sliced-fast, fastUnsliced, unsliced-fast}
+use Rattle.subbasin.proofs.step.FastLaws.{fastStepped, stepped-fast, fastWhole, whole-fast}
 
-pub step-a : stepped case-a weather-a
-    ≡ record {
+-- 135 mm in one, and in 27 slices
+whole-rain : wholeRain ≡ record { rb = 0; r = 30000; rs = 25556; layers = record { wu = 20000; wl = 60000; wd = 25000 }; kept = 4444 }
+unfolding fastUnsliced
+whole-rain = unsliced-fast _ _ _ _
+
+sliced-rain : slicedRain ≡ record { rb = 0; r = 29970; rs = 20246; layers = record { wu = 20000; wl = 60000; wd = 25030 }; kept = 9724 }
+unfolding fastSliced
+sliced-rain = sliced-fast _ _ _ _
+
+-- no evapotranspiration and no RB; WU and WL are full, RI is RG and VI is VG
+abbrev answered : ℕ → ℕ → ℕ → ℕ → ℕ → ℕ → ℕ → Stepped
+answered r rs rg q wd g vg =
+    record {
       number = 0;
       place = 0;
       after =
           record {
             fixed = case-a .fixed;
-            contents = record { wu = 20000; wl = 60000; wd = 25000; g = 2222; vi = 556; vg = 556 };
+            contents = record { wu = 20000; wl = 60000; wd = wd; g = g; vi = vg; vg = vg };
             line = record { lag = 0; waiting = replicate 15 0 };
             channel = 0;
           };
@@ -25,15 +36,23 @@ pub step-a : stepped case-a weather-a
       el = 0;
       ed = 0;
       rb = 0;
-      r = 30000;
-      rs = 25556;
-      ri = 1111;
-      rg = 1111;
-      q = 26666;
+      r = r;
+      rs = rs;
+      ri = rg;
+      rg = rg;
+      q = q;
     }
-unfolding stepped evaporated ep runoff rb gain mm refilled parted keep level ms outflow content leaving waitingAfter entered fastRise
-step-a = simp rise-fast
+
+whole-a : steppedWhole case-a weather-a ≡ answered 30000 25556 1111 26666 25000 2222 556
+unfolding fastWhole
+whole-a = whole-fast _ _
+
+pub step-a : stepped case-a weather-a ≡ answered 29970 20246 2431 22676 25030 4862 1216
+unfolding fastStepped
+step-a = stepped-fast _ _
 
 pub step-cases : Agree stepCases
-unfolding stepped evaporated ep runoff rb gain mm refilled parted keep level ms outflow content leaving waitingAfter entered fastRise
-step-cases = simp rise-fast (refl, (refl, (refl, (refl, (refl, (refl, (refl, tt)))))))
+unfolding outflow
+step-cases =
+    rw (whole-a, whole-rain, step-a, sliced-rain)
+    (refl, (refl, (refl, (refl, (refl, (refl, (refl, (refl, (refl, (refl, (refl, (refl, (refl, (refl, tt))))))))))))))

@@ -1,3 +1,4 @@
 pub mod StageLaws
+pub mod FastLaws
 pub mod StepLaws
 pub mod CallLaws

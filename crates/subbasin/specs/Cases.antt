@@ -1,14 +1,16 @@
--- Document 01, "What the program prints" and "Proved cases": case A's sub-basin, and its first step as rows over the definitions.
+-- Document 01, "What the program prints" and "Proved cases": case A's sub-basin, and its first step as rows over the definitions,
+-- with net rain in one as document 01 has it and by slices as document 02, No. 3, has it.
 use Prim.Native.Nat.{ℕ}
-use mathlib.Core.List.{List, [], _∷_}
+use mathlib.Core.List.{List, [], _∷_, _++_}
 use lib.ListN.{replicate}
 use Rattle.common.specs.declared.weather.Weather.{Weather}
 use Rattle.common.specs.Cases.{Row, row}
 use Rattle.subbasin.specs.declared.record.SubBasin.{SubBasin}
 use Rattle.subbasin.specs.Record.{ofWords}
-use Rattle.subbasin.specs.Soil.{gain}
-use Rattle.subbasin.specs.FreeWater.{keep}
-use Rattle.subbasin.specs.Step.{let-go, stepped}
+use Rattle.subbasin.specs.declared.slices.Sliced.{Sliced}
+use Rattle.subbasin.specs.Soil.{tension}
+use Rattle.subbasin.specs.Slices.{sliced, unsliced}
+use Rattle.subbasin.specs.Step.{layersOf, let-go, stepped, steppedWhole}
 
 -- area, K, UM, LM, DM, C, BN, IM, SM, XN, KI, KG, CI, CG, then CS, L, REACH and all starts 0
 abbrev pub words-a : List ℕ
@@ -22,14 +24,36 @@ case-a = ofWords words-a
 abbrev pub weather-a : Weather
 weather-a = record { rain = 135000; pan = 0 }
 
--- "In step 1: gain 105000, R 30000, keep 4444, RS 25556, RI 1111, TI 555", and Q
-abbrev pub stepCases : List Row
-stepCases =
-    row (gain (case-a .fixed) 0 135000 135000) 105000
-    ∷ row (stepped case-a weather-a .r) 30000
-    ∷ row (keep (case-a .fixed) 0 135000 30000) 4444
-    ∷ row (stepped case-a weather-a .rs) 25556
-    ∷ row (stepped case-a weather-a .ri) 1111
+-- its net rain, in one and by slices
+abbrev pub wholeRain : Sliced
+wholeRain = unsliced (case-a .fixed) (layersOf (case-a .contents)) 0 135000
+
+abbrev pub slicedRain : Sliced
+slicedRain = sliced (case-a .fixed) (layersOf (case-a .contents)) 0 135000
+
+-- In one, as document 01 has it: "In step 1: gain 105000, R 30000, keep 4444, RS 25556, RI 1111, TI 555", and Q
+abbrev pub wholeCases : List Row
+wholeCases =
+    row (tension (wholeRain .layers)) 105000
+    ∷ row (steppedWhole case-a weather-a .r) 30000
+    ∷ row (wholeRain .kept) 4444
+    ∷ row (steppedWhole case-a weather-a .rs) 25556
+    ∷ row (steppedWhole case-a weather-a .ri) 1111
     ∷ row (let-go 32768 0 1111) 555
-    ∷ row (stepped case-a weather-a .q) 26666
+    ∷ row (steppedWhole case-a weather-a .q) 26666
     ∷ []
+
+-- By slices, in the same order: the second model's figures
+abbrev pub slicedCases : List Row
+slicedCases =
+    row (tension (slicedRain .layers)) 105030
+    ∷ row (stepped case-a weather-a .r) 29970
+    ∷ row (slicedRain .kept) 9724
+    ∷ row (stepped case-a weather-a .rs) 20246
+    ∷ row (stepped case-a weather-a .ri) 2431
+    ∷ row (let-go 32768 0 2431) 1215
+    ∷ row (stepped case-a weather-a .q) 22676
+    ∷ []
+
+abbrev pub stepCases : List Row
+stepCases = wholeCases ++ slicedCases

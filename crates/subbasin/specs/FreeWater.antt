@@ -1,11 +1,11 @@
--- Document 01, "One sub-basin, one step": free water and its three parts.
+-- Document 01, "One sub-basin, one step": free water, what is kept of it and what drains.
 use Prim.Native.Nat.{ℕ, _+_, _-_, _*_, _/_, min}
 use mathlib.Core.Bool.{cond}
 use lib.Dec.{ltb}
 use Rattle.common.specs.Shares.{one}
 use Rattle.curve.specs.Capacity.{rise}
 use Rattle.subbasin.specs.declared.record.Parameters.{Parameters}
-use Rattle.subbasin.specs.declared.free_water.Parted.{Parted}
+use Rattle.subbasin.specs.declared.free_water.Drained.{Drained}
 
 -- "m = MS = SM × XN / 16"
 unfoldable pub ms : Parameters → ℕ
@@ -19,15 +19,11 @@ level p g pe r = min (p .sm) (g * pe / r)
 unfoldable pub keep : Parameters → ℕ → ℕ → ℕ → ℕ
 keep p g pe r = cond (ltb 0 r) (min (g + r) (rise (p .sm) (ms p) (p .xn) (level p g pe r) pe * r / pe)) g
 
--- "RS = G + R − keep", 0 where R = 0; "RI = KI × keep / 65,536, RG likewise with KG; G becomes keep − RI − RG"
-abbrev pub drained : Parameters → ℕ → ℕ → Parted
-drained p before kept =
+-- "RI = KI × keep / 65,536, RG likewise with KG; G becomes keep − RI − RG"
+unfoldable pub drained : Parameters → ℕ → Drained
+drained p kept =
     record {
-      rs = before - kept;
       ri = p .ki * kept / one;
       rg = p .kg * kept / one;
       g = kept - p .ki * kept / one - p .kg * kept / one;
     }
-
-unfoldable pub parted : Parameters → ℕ → ℕ → ℕ → Parted
-parted p g pe r = drained p (g + r) (keep p g pe r)

@@ -4,6 +4,7 @@ pub mod Lag
 pub mod Content
 pub mod Soil
 pub mod FreeWater
+pub mod Slices
 pub mod Step
 pub mod Workers
 pub mod Cases

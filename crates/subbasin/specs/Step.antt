@@ -1,5 +1,7 @@
--- Document 01, "One sub-basin, one step" and "The store law": one step of a sub-basin, and the sub-basin call.
-use Prim.Native.Nat.{ℕ, _+_, _-_, _*_}
+-- Document 01, "One sub-basin, one step" and "The store law", with net rain as document 02, No. 3, has it: one step of a sub-basin, and
+-- the sub-basin call.
+use mathlib.Core.Path.{_≡_}
+use Prim.Native.Nat.{ℕ, _+_, _-_, _*_, _≤_}
 use mathlib.Core.Bool.{Bool, cond, _&&_}
 use lib.Dec.{leb}
 use Rattle.common.specs.Shares.{one}
@@ -14,10 +16,11 @@ use Rattle.subbasin.specs.declared.step.Stepped.{Stepped}
 use Rattle.subbasin.specs.Record.{recordIn}
 use Rattle.subbasin.specs.declared.soil.Layers.{Layers}
 use Rattle.subbasin.specs.declared.soil.Evaporated.{Evaporated}
-use Rattle.subbasin.specs.declared.soil.Runoff.{Runoff}
-use Rattle.subbasin.specs.declared.free_water.Parted.{Parted}
-use Rattle.subbasin.specs.Soil.{ep, evaporated, runoff}
-use Rattle.subbasin.specs.FreeWater.{parted}
+use Rattle.subbasin.specs.declared.free_water.Drained.{Drained}
+use Rattle.subbasin.specs.declared.slices.Sliced.{Sliced}
+use Rattle.subbasin.specs.Soil.{ep, evaporated}
+use Rattle.subbasin.specs.FreeWater.{drained}
+use Rattle.subbasin.specs.Slices.{mostSlice, sliced, unsliced}
 use Rattle.subbasin.specs.Lag.{leaving, entered}
 
 abbrev pub layersOf : Contents → Layers
@@ -38,57 +41,68 @@ abbrev pub holds : ℕ → ℕ → ℕ → ℕ
 holds share v i = content (rest share) (rest share) v i
 
 -- "T = (RS + RB + TI + TG) × area"
-abbrev pub total : SubBasin → Runoff → Parted → ℕ
-total s ro pw =
-    (pw .rs + ro .rb + let-go (s .fixed .ci) (s .contents .vi) (pw .ri) + let-go (s .fixed .cg) (s .contents .vg) (pw .rg)) * s .fixed .area
+abbrev pub total : SubBasin → Sliced → Drained → ℕ
+total s sl dr =
+    (sl .rs + sl .rb + let-go (s .fixed .ci) (s .contents .vi) (dr .ri) + let-go (s .fixed .cg) (s .contents .vg) (dr .rg)) * s .fixed .area
 
 -- the answer, from what each stage gave, what VI, VG, the lag line and the channel are then, and Q
-abbrev pub gathered : SubBasin → Evaporated → Runoff → Parted → ℕ → ℕ → LagLine → ℕ → ℕ → Stepped
-gathered s ev ro pw vi vg line channel q =
+abbrev pub gathered : SubBasin → Evaporated → Sliced → Drained → ℕ → ℕ → LagLine → ℕ → ℕ → Stepped
+gathered s ev sl dr vi vg line channel q =
     record {
       number = 0;
       place = 0;
       after =
           record {
             fixed = s .fixed;
-            contents = record { wu = ro .layers .wu; wl = ro .layers .wl; wd = ro .layers .wd; g = pw .g; vi = vi; vg = vg };
+            contents = record { wu = sl .layers .wu; wl = sl .layers .wl; wd = sl .layers .wd; g = dr .g; vi = vi; vg = vg };
             line = line;
             channel = channel;
           };
       eu = ev .eu;
       el = ev .el;
       ed = ev .ed;
-      rb = ro .rb;
-      r = ro .r;
-      rs = pw .rs;
-      ri = pw .ri;
-      rg = pw .rg;
+      rb = sl .rb;
+      r = sl .r;
+      rs = sl .rs;
+      ri = dr .ri;
+      rg = dr .rg;
       q = q;
     }
 
 -- "TI comes from store VI with inflow RI, TG from VG with RG"; T, the amount t, "enters the lag line", and what leaves it "goes through
 -- the CS store to give Q"
-abbrev pub with-total : SubBasin → Evaporated → Runoff → Parted → ℕ → Stepped
-with-total s ev ro pw t =
-    gathered s ev ro pw
-    (holds (s .fixed .ci) (s .contents .vi) (pw .ri))
-    (holds (s .fixed .cg) (s .contents .vg) (pw .rg))
+abbrev pub with-total : SubBasin → Evaporated → Sliced → Drained → ℕ → Stepped
+with-total s ev sl dr t =
+    gathered s ev sl dr
+    (holds (s .fixed .ci) (s .contents .vi) (dr .ri))
+    (holds (s .fixed .cg) (s .contents .vg) (dr .rg))
     (entered (s .line) t)
     (holds (s .fixed .cs) (s .channel) (leaving (s .line) t))
     (let-go (s .fixed .cs) (s .channel) (leaving (s .line) t))
 
 -- the stages in order
-abbrev pub with-parted : SubBasin → Evaporated → Runoff → Parted → Stepped
-with-parted s ev ro pw = with-total s ev ro pw (total s ro pw)
+abbrev pub with-drained : SubBasin → Evaporated → Sliced → Drained → Stepped
+with-drained s ev sl dr = with-total s ev sl dr (total s sl dr)
 
-abbrev pub with-runoff : SubBasin → Evaporated → Runoff → Stepped
-with-runoff s ev ro = with-parted s ev ro (parted (s .fixed) (s .contents .g) (ev .pe) (ro .r))
+-- "KI and KG drain once, after the last slice, from the last keep"
+abbrev pub with-slices : SubBasin → Evaporated → Sliced → Stepped
+with-slices s ev sl = with-drained s ev sl (drained (s .fixed) (sl .kept))
+
+-- EU, EL, ED and PE, and the layers they leave
+abbrev pub evaporation : SubBasin → Weather → Evaporated
+evaporation s w = evaporated (s .fixed) (layersOf (s .contents)) (w .rain) (ep (s .fixed) (w .pan))
 
 abbrev pub with-evaporated : SubBasin → Evaporated → Stepped
-with-evaporated s ev = with-runoff s ev (runoff (s .fixed) (ev .layers) (ev .pe))
+with-evaporated s ev = with-slices s ev (sliced (s .fixed) (ev .layers) (s .contents .g) (ev .pe))
 
 unfoldable pub stepped : SubBasin → Weather → Stepped
-stepped s w = with-evaporated s (evaporated (s .fixed) (layersOf (s .contents)) (w .rain) (ep (s .fixed) (w .pan)))
+stepped s w = with-evaporated s (evaporation s w)
+
+-- the step of document 01, PE in one
+unfoldable pub steppedWhole : SubBasin → Weather → Stepped
+steppedWhole s w =
+    let ev = evaporation s w in
+    with-slices s ev (unsliced (s .fixed) (ev .layers) (s .contents .g) (ev .pe))
 
 -- 10, place 0, the record as it was, all else 0
 abbrev pub returned : SubBasin → Stepped
@@ -103,3 +117,10 @@ callIn s w = recordIn (s .fixed .reach) s && leb (w .rain) mostRain && leb (w .p
 -- the sub-basin call
 unfoldable pub subCall : SubBasin → Weather → Stepped
 subCall s w = cond (callIn s w) (stepped s w) (returned s)
+
+-- and with PE in one: document 02, No. 3, "A step with PE of 5,000 or less answers as before"
+unfoldable pub wholeCall : SubBasin → Weather → Stepped
+wholeCall s w = cond (callIn s w) (steppedWhole s w) (returned s)
+
+abbrev pub AsBefore : SubBasin → Weather → Stepped → Type 0
+AsBefore s w r = evaporation s w .pe ≤ mostSlice → r ≡ wholeCall s w

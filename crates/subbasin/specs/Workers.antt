@@ -7,6 +7,10 @@ use Rattle.common.specs.Shares.{one}
 use Rattle.common.specs.Limits.{within, Word}
 use Rattle.subbasin.specs.declared.record.Parameters.{Parameters}
 use Rattle.subbasin.specs.declared.soil.Layers.{Layers}
+use Rattle.subbasin.specs.declared.slices.Sliced.{Sliced}
+use Rattle.subbasin.specs.declared.slices.Curve.{Curve}
+use Rattle.subbasin.specs.Soil.{wm, mm}
+use Rattle.subbasin.specs.FreeWater.{ms}
 
 -- of words that are judged one after the other, n of the first k were inside up to the first outside: and with a word more
 unfoldable pub further : ℕ → ℕ → ℕ → ℕ → ℕ → ℕ
@@ -41,3 +45,17 @@ pub record FreeIn (p : Parameters) : Type 0 where
   pub xn-least : 16 ≤ p .xn
   pub xn-most : p .xn ≤ 48
   pub drains : p .ki + p .kg ≤ one
+
+-- what slices have given leaves room for one of pe more: the stores are inside, and the sums fit
+pub record RoomFor (p : Parameters) (pe : ℕ) (s : Sliced) : Type 0 where
+  pub inside : LayersIn p (s .layers)
+  pub kept-most : s .kept ≤ p .sm
+  pub runoff-most : s .rb + s .r + pe ≤ 1000000
+  pub free-most : s .rs + s .kept + pe ≤ 1100000
+
+-- the curves of tension water and of free water
+abbrev pub soilCurve : Parameters → Curve
+soilCurve p = record { c = wm p; m = mm p; e = p .bn }
+
+abbrev pub freeCurve : Parameters → Curve
+freeCurve p = record { c = p .sm; m = ms p; e = p .xn }

@@ -3,5 +3,6 @@ pub mod content;
 mod free_water;
 mod lag;
 pub mod record;
+mod slices;
 mod soil;
 pub mod step;

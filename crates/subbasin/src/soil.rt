@@ -1,15 +1,12 @@
 // Evapotranspiration, runoff and the three layers of tension water: document 01, "One sub-basin, one step". All in µm.
 ghost use mathlib.Core.Path.{_≡_};
 ghost use Prim.Native.Nat.{_+_, _≤_, _<_};
-ghost use mathlib.Core.Bool.{true};
-ghost use Rattle.curve.specs.Capacity.{curveIn, rise};
+ghost use Rattle.curve.specs.Capacity.{rise};
 ghost use Rattle.subbasin.specs.Workers.{SoilIn, LayersIn};
-ghost use Rattle.subbasin.specs.Soil.{fallen, deeper, evaporated, tension, wm, mm, gain, refilled, runoff};
+ghost use Rattle.subbasin.specs.Soil.{fallen, deeper, evaporated, tension, wm, mm, refilled, runoff};
 use crate::record::Parameters;
 use common::amounts::least;
 use common::shares::ONE;
-use curve::capacity;
-use curve::capacity::Roots;
 
 // Water in the upper, lower and deep layer.
 pub struct Layers {
@@ -85,21 +82,15 @@ fn fall(w: Layers, rain: u64, u: u64, el: u64, ed: u64) -> Evaporated
     }
 }
 
-// Runoff from the impervious part, and from what the soil can't hold of the rest of the net rain.
-pub fn run_off(roots: &Roots, p: Parameters, w: Layers, pe: u64) -> Runoff
-    requires { ⌜ SoilIn p × LayersIn p w × (pe ≤ 1000000) ⌝ }
+// Runoff from the impervious part, and from what the soil can't hold of the rest of the net rain: top is what the curve of tension
+// water holds once pe has come on top.
+pub fn run_off(p: Parameters, w: Layers, pe: u64, top: u64) -> Runoff
+    requires { ⌜ SoilIn p × LayersIn p w × (0 < pe) × (pe ≤ 1000000) × (top ≡ rise (wm p) (mm p) (p .bn) (tension w) pe) ⌝ }
     ensures { λ r. ⌜ r ≡ runoff p w pe ⌝ }
 {
-    if pe == 0 {
-        return Runoff {
-            rb: 0,
-            r: 0,
-            layers: w,
-        };
-    }
     let rb = p.im * pe / ONE;
     let x = pe - rb;
-    let gained = gain_of(roots, p, w.wu + w.wl + w.wd, pe, x);
+    let gained = least(x, top - (w.wu + w.wl + w.wd));
     Runoff {
         rb,
         r: x - gained,
@@ -107,28 +98,8 @@ pub fn run_off(roots: &Roots, p: Parameters, w: Layers, pe: u64) -> Runoff
     }
 }
 
-// What of x the soil holds, where its water w lies along the capacity curve and net rain pe comes on top.
-fn gain_of(roots: &Roots, p: Parameters, w: u64, pe: u64, x: u64) -> u64
-    requires { ⌜ SoilIn p × (w ≤ wm p) × (0 < pe) × (pe ≤ 1000000) ⌝ }
-    ensures { λ r. ⌜ r ≡ gain p w pe x ⌝ }
-{
-    let c = p.um + p.lm + p.dm;
-    let m = most_point(p);
-    least(x, raise(roots, c, m, p.bn, w, pe) - w)
-}
-
-// What the curve holds once pe has come on top of w.
-pub fn raise(roots: &Roots, c: u64, m: u64, e: u64, w: u64, pe: u64) -> u64
-    requires { ⌜ (curveIn c m e ≡ true) × (w ≤ c) × (pe ≤ 1000000) ⌝ }
-    ensures { λ r. ⌜ r ≡ rise c m e w pe ⌝ }
-{
-    let from = capacity::ordinate_with(roots, c, m, e, w);
-    let to = capacity::held_with(roots, c, m, e, least(from.value + pe, m));
-    to.value
-}
-
 // MM, the greatest point capacity of tension water.
-fn most_point(p: Parameters) -> u64
+pub fn most_point(p: Parameters) -> u64
     requires { ⌜ SoilIn p ⌝ }
     ensures { λ r. ⌜ r ≡ mm p ⌝ }
 {

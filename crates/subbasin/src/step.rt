@@ -1,21 +1,22 @@
-// One sub-basin, one step: document 01, "One sub-basin, one step" and "The store law".
+// One sub-basin, one step: document 01, "One sub-basin, one step" and "The store law"; net rain as document 02, No. 3, has it.
 ghost use mathlib.Core.Path.{_≡_};
 ghost use mathlib.Core.Bool.{true};
 ghost use Prim.Native.Nat.{_+_, _≤_};
 ghost use Rattle.common.specs.Shares.{one};
 ghost use Rattle.common.specs.Weather.{WeatherIn};
 ghost use Rattle.subbasin.specs.Record.{recordIn};
-ghost use Rattle.subbasin.specs.Step.{slowStore, with-parted, returned, stepped, subCall};
+ghost use Rattle.subbasin.specs.Step.{slowStore, with-drained, returned, stepped, subCall, AsBefore};
 use crate::free_water;
-use crate::free_water::Parted;
+use crate::free_water::Drained;
 use crate::lag;
 use crate::record;
 use crate::record::Contents;
 use crate::record::SubBasin;
+use crate::slices;
+use crate::slices::Sliced;
 use crate::soil;
 use crate::soil::Evaporated;
 use crate::soil::Layers;
-use crate::soil::Runoff;
 use common::shares::ONE;
 use common::weather::MOST_PAN;
 use common::weather::MOST_RAIN;
@@ -42,7 +43,7 @@ pub struct Stepped {
 
 // One step under the weather of a line.
 pub fn step(s: SubBasin, weather: Weather) -> Stepped
-    ensures { λ r. ⌜ r ≡ subCall s weather ⌝ }
+    ensures { λ r. ⌜ (r ≡ subCall s weather) × AsBefore s weather r ⌝ }
 {
     let roots = capacity::printed_roots();
     step_with(&roots, s, weather)
@@ -84,7 +85,7 @@ fn refuse(s: SubBasin) -> Stepped
     }
 }
 
-// The stages in order: evapotranspiration, runoff, free water, then the way to the outlet.
+// The stages in order: evapotranspiration, net rain in slices, what drains, then the way to the outlet.
 fn run(roots: &Roots, s: SubBasin, weather: Weather) -> Stepped
     requires { ⌜ (recordIn (s .fixed .reach) s ≡ true) × WeatherIn weather ⌝ }
     ensures { λ r. ⌜ r ≡ stepped s weather ⌝ }
@@ -98,24 +99,24 @@ fn run(roots: &Roots, s: SubBasin, weather: Weather) -> Stepped
     };
     let ev = soil::evaporate(p, layers, weather.rain, p.k * weather.pan / ONE);
     let left = ev.layers;
-    let ro = soil::run_off(roots, p, left, ev.pe);
-    let pw = free_water::drain(roots, p, w.g, ev.pe, ro.r);
-    route(s, ev, ro, pw)
+    let sl = slices::take_slices(roots, p, left, w.g, ev.pe);
+    let dr = free_water::drain(p, sl.kept);
+    route(s, ev, sl, dr)
 }
 
 // The slow stores, the lag line and the channel.
-fn route(s: SubBasin, ev: Evaporated, ro: Runoff, pw: Parted) -> Stepped
-    requires { ⌜ (recordIn (s .fixed .reach) s ≡ true) × (pw .rs + ro .rb ≤ 1100000) × (pw .ri + pw .rg ≤ 100000) ⌝ }
-    ensures { λ r. ⌜ r ≡ with-parted s ev ro pw ⌝ }
+fn route(s: SubBasin, ev: Evaporated, sl: Sliced, dr: Drained) -> Stepped
+    requires { ⌜ (recordIn (s .fixed .reach) s ≡ true) × (sl .rs + sl .rb ≤ 1100000) × (dr .ri + dr .rg ≤ 100000) ⌝ }
+    ensures { λ r. ⌜ r ≡ with-drained s ev sl dr ⌝ }
 {
     let p = s.fixed;
     let w = s.contents;
     let line = s.line;
-    let interflow = slow(p.ci, w.vi).take(pw.ri);
-    let ground = slow(p.cg, w.vg).take(pw.rg);
-    let t = (pw.rs + ro.rb + interflow.outflow + ground.outflow) * p.area;
+    let interflow = slow(p.ci, w.vi).take(dr.ri);
+    let ground = slow(p.cg, w.vg).take(dr.rg);
+    let t = (sl.rs + sl.rb + interflow.outflow + ground.outflow) * p.area;
     let channel = slow(p.cs, s.channel).take(lag::leave(line, t));
-    let layers = ro.layers;
+    let layers = sl.layers;
     let vi = interflow.store;
     let vg = ground.store;
     let ch = channel.store;
@@ -128,7 +129,7 @@ fn route(s: SubBasin, ev: Evaporated, ro: Runoff, pw: Parted) -> Stepped
                 wu: layers.wu,
                 wl: layers.wl,
                 wd: layers.wd,
-                g: pw.g,
+                g: dr.g,
                 vi: vi.content,
                 vg: vg.content,
             },
@@ -138,11 +139,11 @@ fn route(s: SubBasin, ev: Evaporated, ro: Runoff, pw: Parted) -> Stepped
         eu: ev.eu,
         el: ev.el,
         ed: ev.ed,
-        rb: ro.rb,
-        r: ro.r,
-        rs: pw.rs,
-        ri: pw.ri,
-        rg: pw.rg,
+        rb: sl.rb,
+        r: sl.r,
+        rs: sl.rs,
+        ri: dr.ri,
+        rg: dr.rg,
         q: channel.outflow,
     }
 }

@@ -18,6 +18,15 @@ fn main() {
     two_steps(basins::at_c_share(), 0, 100000);
     two_steps(basins::brimming(0), 1000000, 100000);
     two_steps(basins::brimming(65535), 1000000, 100000);
+    cuts(basins::case_a());
+    cuts(basins::middling());
+    cuts(basins::brimming(0));
+    // The same where EP takes 10,000 of the rain.
+    step(basins::case_a(), 14999, 10000);
+    step(basins::case_a(), 15000, 10000);
+    step(basins::case_a(), 15001, 10000);
+    step(basins::case_a(), 20000, 10000);
+    step(basins::case_a(), 20001, 10000);
     limits::places(basins::case_a(), calls::PLACES);
     limits::places(basins::middling(), calls::PLACES);
     plan::weathers(b"case_a", basins::case_a());
@@ -33,6 +42,17 @@ fn main() {
 fn two_steps(start: SubBasin, rain: u64, pan: u64) {
     let first = step(start, rain, 0);
     step(first, 0, pan);
+}
+
+// Net rain at the ends of slices and beside them, and of 200 slices.
+fn cuts(start: SubBasin) {
+    two_steps(start, 4999, 10000);
+    two_steps(start, 5000, 10000);
+    two_steps(start, 5001, 10000);
+    two_steps(start, 9999, 10000);
+    two_steps(start, 10000, 10000);
+    two_steps(start, 10001, 10000);
+    two_steps(start, 1000000, 10000);
 }
 
 fn step(record: SubBasin, rain: u64, pan: u64) -> SubBasin {

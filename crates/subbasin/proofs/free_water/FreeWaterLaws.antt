@@ -1,10 +1,10 @@
--- Free water: the three parts and what stays are all of it, and what stays is at most SM. Assumes nothing.
+-- Free water: what is kept is at most what there is and at most SM, and what drains is part of it. Assumes nothing.
 use mathlib.Core.Path.{_≡_}
 use Prim.Native.Nat.{ℕ, _+_, _*_, _/_, _≤_}
 use native.Mathlib.Nat.{mul-le-mul, mul-le-mul-right, div-le-of-le-mul}
 use native.Mathlib.Omega.{arith}
 use lib.Dec.{ltb}
-use borrow.Author.Tests.{ltb-false}
+use borrow.Author.Tests.{le-ltb, ltb-false}
 use Rattle.common.specs.Shares.{one}
 use Rattle.curve.specs.Capacity.{rise}
 use Rattle.curve.proofs.capacity.CallLaws.{CurveIn}
@@ -12,9 +12,9 @@ use Rattle.curve.proofs.capacity.HeldLaws.{rise-le}
 use Rattle.subbasin.specs.declared.record.Parameters.{Parameters}
 use Rattle.subbasin.specs.declared.record.SubBasin.{SubBasin}
 use Rattle.subbasin.specs.Record.{words}
-use Rattle.subbasin.specs.declared.free_water.Parted.{Parted}
+use Rattle.subbasin.specs.declared.free_water.Drained.{Drained}
 use Rattle.subbasin.specs.Workers.{FreeIn}
-use Rattle.subbasin.specs.FreeWater.{ms, level, keep, parted}
+use Rattle.subbasin.specs.FreeWater.{ms, level, keep, drained}
 use Rattle.common.proofs.Limits.{by-test}
 use Rattle.common.proofs.Limits.{Within}
 
@@ -37,9 +37,18 @@ ms-least p free = omega (arith, mul-le-mul {n₁ = 1} {m₁ = 16} {n₂ = p .sm}
 pub free-curve : (p : Parameters) → FreeIn p → CurveIn (p .sm) (ms p) (p .xn)
 free-curve p free = omega (arith, ms-least p free, ms-most p free)
 
+pub level-le : (p : Parameters) (g pe r : ℕ) → level p g pe r ≤ p .sm
+unfolding level
+level-le p g pe r = omega arith
+
 -- a part r / pe of what is at most m is at most m
 part-most : (x m r pe : ℕ) → x ≤ m → r ≤ pe → x * r / pe ≤ m
 part-most x m r pe h k = div-le-of-le-mul pe (omega (arith, mul-le-mul {n₁ = x} {m₁ = r} {n₂ = m} {m₂ = pe} h k))
+
+-- without runoff all is kept
+pub keep-none : (p : Parameters) (g pe r : ℕ) → r ≡ 0 → keep p g pe r ≡ g
+unfolding keep
+keep-none p g pe r h = rw (le-ltb 0 r (omega arith))
 
 -- what is kept: no more than there is, and no more than SM
 pub record Keeps (p : Parameters) (g r kept : ℕ) : Type 0 where
@@ -53,18 +62,14 @@ keeps p g pe r hg hr =
     let top : s2 * r / pe ≤ p .sm = part-most s2 (p .sm) r pe (rise-le (p .sm) (ms p) (p .xn) (level p g pe r) pe) hr in
     by-test (Keeps p g r) (ltb 0 r) (λ _. omega arith) (λ t. let z : r ≤ 0 = ltb-false 0 r t in omega arith)
 
--- RS, RI, RG and the free water after are the free water before and R; what drains was kept
-pub record Parts (p : Parameters) (g r : ℕ) (pw : Parted) : Type 0 where
-  pub balance : g + r ≡ pw .rs + pw .ri + pw .rg + pw .g
-  pub kept-most : pw .ri + pw .rg + pw .g ≤ p .sm
+-- RI, RG and the free water after are what was kept
+pub record Drains (kept : ℕ) (d : Drained) : Type 0 where
+  pub balance : kept ≡ d .ri + d .rg + d .g
 
 -- the drains take no more than there is
 pub drains-most : (p : Parameters) (kept : ℕ) → FreeIn p → p .ki * kept / one + p .kg * kept / one ≤ kept
 drains-most p kept free = omega (arith, mul-le-mul-right kept (free .drains))
 
-pub parted-parts : (p : Parameters) (g pe r : ℕ) → FreeIn p → g ≤ p .sm → r ≤ pe → Parts p g r (parted p g pe r)
-unfolding parted
-parted-parts p g pe r free hg hr =
-    let k = keeps p g pe r hg hr in
-    let d = drains-most p (keep p g pe r) free in
-    omega arith
+pub drained-drains : (p : Parameters) (kept : ℕ) → FreeIn p → Drains kept (drained p kept)
+unfolding drained
+drained-drains p kept free = omega (arith, drains-most p kept free)

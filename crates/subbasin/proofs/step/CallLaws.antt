@@ -1,6 +1,7 @@
 -- The sub-basin call: accepted inside its limits, refused outside. Assumes nothing.
-use mathlib.Core.Path.{_≡_}
-use mathlib.Core.Bool.{true, _&&_}
+use mathlib.Core.Path.{_≡_, ap}
+use mathlib.Core.Bool.{true, cond, _&&_}
+use Prim.Native.Nat.{_≤_}
 use native.Mathlib.Omega.{arith}
 use lib.Dec.{leb}
 use borrow.Author.Tests.{le-leb, leb-true}
@@ -9,9 +10,12 @@ use Rattle.common.specs.Weather.{mostRain, mostPan, WeatherIn}
 use Rattle.common.proofs.Limits.{by-test, refuted, both, parts}
 use Rattle.subbasin.specs.declared.record.SubBasin.{SubBasin}
 use Rattle.subbasin.specs.declared.step.Stepped.{Stepped}
+use Rattle.subbasin.specs.declared.slices.Sliced.{Sliced}
 use Rattle.subbasin.specs.Record.{recordIn}
-use Rattle.subbasin.specs.Step.{stepped, returned, callIn, subCall}
+use Rattle.subbasin.specs.Slices.{mostSlice}
+use Rattle.subbasin.specs.Step.{with-slices, evaporation, stepped, steppedWhole, returned, callIn, subCall, wholeCall}
 use Rattle.subbasin.proofs.record.RecordLaws.{RecordIn, record-in, record-limits}
+use Rattle.subbasin.proofs.slices.SlicesLaws.{once}
 
 -- the limits of the call
 pub record CallIn (s : SubBasin) (w : Weather) : Type 0 where
@@ -43,3 +47,10 @@ module _ (s : SubBasin) (w : Weather) where
   unfolding subCall
   step-accepted =
       by-test (λ (st : Stepped). st .number ≡ 0 → CallIn s w) (callIn s w) (λ t e. call-limits t) (λ t e. absurd (omega arith))
+
+  -- with PE of one slice at most
+  pub call-whole : evaporation s w .pe ≤ mostSlice → subCall s w ≡ wholeCall s w
+  unfolding subCall wholeCall stepped steppedWhole
+  call-whole h =
+      let ev = evaporation s w in
+      ap (λ (sl : Sliced). cond (callIn s w) (with-slices s ev sl) (returned s)) (once (s .fixed) (ev .layers) (s .contents .g) (ev .pe) h)

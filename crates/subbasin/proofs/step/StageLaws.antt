@@ -9,13 +9,15 @@ use Rattle.subbasin.specs.declared.record.SubBasin.{SubBasin}
 use Rattle.subbasin.specs.declared.step.Stepped.{Stepped}
 use Rattle.subbasin.specs.Record.{words}
 use Rattle.subbasin.specs.Workers.{SoilIn, LayersIn, FreeIn}
-use Rattle.subbasin.specs.Soil.{ep, evaporated, runoff}
-use Rattle.subbasin.specs.FreeWater.{parted}
+use Rattle.subbasin.specs.Soil.{ep, evaporated}
+use Rattle.subbasin.specs.FreeWater.{drained}
+use Rattle.subbasin.specs.Slices.{sliced}
 use Rattle.subbasin.specs.Lag.{leaving, entered}
 use Rattle.subbasin.specs.Step.{layersOf, let-go, holds, stepped}
 use Rattle.common.proofs.Limits.{Within}
-use Rattle.subbasin.proofs.soil.SoilLaws.{soil-in, layers-in, Evaporates, evaporation, evaporation-in, ep-most, Runs, runs}
-use Rattle.subbasin.proofs.free_water.FreeWaterLaws.{free-in, g-in, Parts, parted-parts}
+use Rattle.subbasin.proofs.soil.SoilLaws.{soil-in, layers-in, Evaporates, evaporation, evaporation-in, ep-most}
+use Rattle.subbasin.proofs.free_water.FreeWaterLaws.{free-in, g-in, Drains, drained-drains}
+use Rattle.subbasin.proofs.slices.SlicesLaws.{Falls, sliced-falls}
 
 -- Rain and the soil's water are evapotranspiration, runoff (RB + RS + RI + RG) and the soil's water after; depths in µm.
 pub record Depths (s : SubBasin) (w : Weather) (st : Stepped) : Type 0 where
@@ -37,14 +39,13 @@ depths m v s weather h k =
     let rain = weather .rain in
     let e = ep p (weather .pan) in
     let ev = evaporated p w rain e in
-    let ro = runoff p (ev .layers) (ev .pe) in
-    let pw = parted p (s .contents .g) (ev .pe) (ro .r) in
+    let sl = sliced p (ev .layers) (s .contents .g) (ev .pe) in
     let soil : SoilIn p = soil-in m v s h in
     let free : FreeIn p = free-in m v s h in
     let fits : LayersIn p w = layers-in m v s h in
     let a : Evaporates w rain e ev = evaporation p w soil fits rain e in
-    let b : Runs p (ev .layers) (ev .pe) ro = runs p (ev .layers) (ev .pe) soil (evaporation-in p w soil fits rain e) in
-    let c : Parts p (s .contents .g) (ro .r) pw = parted-parts p (s .contents .g) (ev .pe) (ro .r) free (g-in m v s h) (omega arith) in
+    let b : Falls p (ev .layers) (s .contents .g) (ev .pe) sl = sliced-falls p (ev .layers) (s .contents .g) soil (evaporation-in p w soil fits rain e) (g-in m v s h) (ev .pe) in
+    let c : Drains (sl .kept) (drained p (sl .kept)) = drained-drains p (sl .kept) free in
     omega (arith, ep-most p soil (weather .pan) (k .pan-most))
 
 -- T, the amount that enters the lag line, from the parts of the step's answer

@@ -12,8 +12,8 @@ use Rattle.common.specs.Weather.{mostRain, WeatherIn}
 use Rattle.subbasin.specs.declared.record.SubBasin.{SubBasin}
 use Rattle.subbasin.specs.declared.step.Stepped.{Stepped}
 use Rattle.subbasin.specs.Record.{words, mostStart, mostSlow}
-use Rattle.subbasin.specs.declared.soil.Runoff.{Runoff}
-use Rattle.subbasin.specs.declared.free_water.Parted.{Parted}
+use Rattle.subbasin.specs.declared.slices.Sliced.{Sliced}
+use Rattle.subbasin.specs.declared.free_water.Drained.{Drained}
 use Rattle.subbasin.specs.Lag.{inUse, mostWaiting, leaving, entered}
 use Rattle.subbasin.specs.Step.{rest, let-go, holds, total, stepped}
 use Rattle.common.specs.Amounts.{sum}
@@ -94,9 +94,9 @@ inflow-fits m s x i g h hx hd =
     let ws = h .in-words in
     le-trans (mul-le-mul {n₁ = x + ti + tg} {m₁ = s .fixed .area} {n₂ = 2 ^ 34 + 1200000} {m₂ = 5000} (omega arith) (omega arith)) (omega arith)
 
-pub total-fits : (m : ℕ) (s : SubBasin) (ro : Runoff) (pw : Parted) → RecordIn m s → pw .rs + ro .rb ≤ 1100000 → pw .ri + pw .rg ≤ 100000
-    → total s ro pw ≤ 2 ^ 47
-total-fits m s ro pw = inflow-fits m s (pw .rs + ro .rb) (pw .ri) (pw .rg)
+pub total-fits : (m : ℕ) (s : SubBasin) (sl : Sliced) (dr : Drained) → RecordIn m s → sl .rs + sl .rb ≤ 1100000 → dr .ri + dr .rg ≤ 100000
+    → total s sl dr ≤ 2 ^ 47
+total-fits m s sl dr = inflow-fits m s (sl .rs + sl .rb) (dr .ri) (dr .rg)
 
 module _ (m : ℕ) (s : SubBasin) (w : Weather) (h : RecordIn m s) (k : WeatherIn w) where
   step-depths : Depths s w (stepped s w)

@@ -19,24 +19,24 @@ narrowed c m e w lo hi z i h =
     sym (ordinate-is c m e w lo z (omega arith) (i .2) (λ _. subst (λ (a : ℕ). w < held c m e a) next (i .3)))
 
 abbrev Inv-loop : tie.InvT-loop
-Inv-loop roots c m e w need lo₀ hi₀ next₀ turns₀ lo hi next turns = (lo < hi) × (hi ≤ m) × (held c m e lo ≤ w) × (w < held c m e hi)
+Inv-loop roots c m e w start need lo₀ hi₀ next₀ turns₀ lo hi next turns = (lo < hi) × (hi ≤ m) × (held c m e lo ≤ w) × (w < held c m e hi)
 
 abbrev μ-loop : tie.MeasureT-loop
-μ-loop roots c m e w need lo₀ hi₀ next₀ turns₀ lo hi next turns = hi - lo
+μ-loop roots c m e w start need lo₀ hi₀ next₀ turns₀ lo hi next turns = hi - lo
 
 returns : tie.Need-returns Inv-loop μ-loop
 returns c = sym (ap (ordinate _ _ _) (c .if1 .taken) ∙ ordinate-full _ _ _ (c .before .pre .1) (c .before .pre .3))
 
-guess-requires : tie.Need-guess-requires Inv-loop μ-loop
-guess-requires c κs = omega (arith, need-le (c .before .args .c) (c .before .args .w))
+first-of-requires : tie.Need-first-of-requires Inv-loop μ-loop
+first-of-requires c κs = omega (arith, need-le (c .before .args .c) (c .before .args .w))
 
 loop-holds : tie.Need-loop-holds Inv-loop μ-loop
 loop-holds c =
     let at = c .before .before .args in
     omega (arith, held-zero (at .c) (at .m) (at .e) (c .before .before .pre .1), held-top (at .c) (at .m) (at .e) (c .before .before .pre .3))
 
-guess-requires-2 : tie.Need-guess-requires-2 Inv-loop μ-loop
-guess-requires-2 c κs =
+guess-requires : tie.Need-guess-requires Inv-loop μ-loop
+guess-requires c κs =
     let at = c .before .before .before .before .before .before .args in
     omega (arith, need-le (at .c) (at .w))
 
@@ -56,5 +56,5 @@ pub ordinate-of-spec : {M : Type 1} → statement M
 ordinate-of-spec =
     tie.close
     (tie.spec Inv-loop μ-loop returns (λ c. omega arith) (λ c. omega arith) (λ c. omega arith) (λ c. omega arith) (λ c. omega arith)
-    guess-requires loop-holds (λ c. omega arith) (λ c κs. omega arith) (λ c κs. omega arith) guess-requires-2 (λ c κs. tt)
+    first-of-requires loop-holds (λ c. omega arith) (λ c κs. omega arith) (λ c κs. omega arith) guess-requires (λ c κs. tt)
     (λ c. omega arith) loop-again (λ c. omega arith) loop-again-2 returns-2)

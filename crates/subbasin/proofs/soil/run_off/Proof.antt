@@ -1,16 +1,17 @@
--- `subbasin::soil::run_off` meets its contract. Assumes nothing.
+-- `subbasin::soil::run_off` meets its contract: the curve never sinks. Assumes nothing.
 use mathlib.Core.Path.{_≡_}
-use Prim.Native.Nat.{ℕ, _-_, _*_, _/_, _≤_}
+use Prim.Native.Nat.{ℕ, _-_, _*_, _/_, _≤_, _<_, min}
 use native.Mathlib.Nat.{mul-le-mul}
 use native.Mathlib.Omega.{arith}
-use borrow.Author.Tests.{lt-ltb, le-ltb}
+use borrow.Author.Tests.{lt-ltb}
 use Rattle.common.specs.Shares.{one}
+use Rattle.curve.specs.Capacity.{rise}
 use Rattle.subbasin.specs.declared.record.Parameters.{Parameters}
 use Rattle.subbasin.specs.declared.soil.Layers.{Layers}
 use Rattle.subbasin.specs.declared.soil.Runoff.{Runoff}
 use Rattle.subbasin.specs.Workers.{SoilIn, LayersIn}
-use Rattle.subbasin.specs.Soil.{tension, rb, gain, refilled, runoff}
-use Rattle.subbasin.proofs.soil.SoilLaws.{Gains, rb-most, gain-in}
+use Rattle.subbasin.specs.Soil.{tension, wm, mm, rb, gain, refilled, runoff}
+use Rattle.subbasin.proofs.soil.SoilLaws.{Gains, rb-most, gain-fits, gain-in}
 use borrow.Author.Needs.{needs}
 use Rattle.subbasin.proofs.soil.run_off.Statement.{statement}
 use Rattle.subbasin.proofs.soil.run_off.Tie as tie
@@ -19,41 +20,51 @@ impervious-le : (p : Parameters) (pe : ℕ) → SoilIn p → p .im * pe / one �
 unfolding rb
 impervious-le p pe h = rb-most p pe h
 
-no-runoff : (p : Parameters) (w : Layers) (pe : ℕ) → pe ≡ 0 → _≡_ {A = Runoff} (record { rb = 0; r = 0; layers = w }) (runoff p w pe)
-unfolding runoff
-no-runoff p w pe h = rw (le-ltb 0 pe (omega arith))
+module _ (p : Parameters) (w : Layers) (pe : ℕ) {top : ℕ} (soil : SoilIn p) (fits : LayersIn p w) (some : 0 < pe)
+    (risen : top ≡ rise (wm p) (mm p) (p .bn) (tension w) pe) where
+  rises : tension w ≤ top
+  rises = rw risen (gain-fits p soil (tension w) pe (omega arith) some)
 
--- the soil's gain, of the x that falls on the pervious part
-module _ (p : Parameters) (w : Layers) (pe : ℕ) {gained : ℕ} (fits : LayersIn p w) (gains : gained ≡ gain p (tension w) pe (pe - p .im * pe / one)) where
-  gain-of-x : Gains p (tension w) (pe - p .im * pe / one) gained
-  gain-of-x = rw gains (gain-in p (tension w) pe (pe - p .im * pe / one) (omega arith))
+  -- the soil's gain, of the x that falls on the pervious part
+  module _ {gained : ℕ} (least : gained ≡ min (pe - p .im * pe / one) (top - tension w)) where
+    gain-is : gained ≡ gain p (tension w) pe (pe - p .im * pe / one)
+    unfolding gain
+    gain-is = rw (← risen) least
 
-  some-runoff : (pe ≡ 0 → ⊥) → {after : Layers} → after ≡ refilled p w gained
-      → _≡_ {A = Runoff} (record { rb = p .im * pe / one; r = pe - p .im * pe / one - gained; layers = after }) (runoff p w pe)
-  unfolding runoff rb
-  some-runoff n e = rw (lt-ltb 0 pe (omega arith), e, gains)
+    gain-of-x : Gains p (tension w) (pe - p .im * pe / one) gained
+    gain-of-x = rw gain-is (gain-in p (tension w) pe (pe - p .im * pe / one) (omega arith))
 
-returns : tie.Need-returns
-returns c = no-runoff _ _ _ (c .if1 .taken)
+    some-runoff : {after : Layers} → after ≡ refilled p w gained
+        → _≡_ {A = Runoff} (record { rb = p .im * pe / one; r = pe - p .im * pe / one - gained; layers = after }) (runoff p w pe)
+    unfolding runoff rb
+    some-runoff e = rw (lt-ltb 0 pe some, e, gain-is)
 
 mul-rb : tie.Need-mul-rb
-mul-rb c = omega (arith, mul-le-mul (c .before .before .pre .0 .im-most) (c .before .before .pre .2))
+mul-rb c = omega (arith, mul-le-mul (c .before .pre .0 .im-most) (c .before .pre .3))
 
 sub-x : tie.Need-sub-x
-sub-x c = impervious-le _ _ (c .before .before .pre .0)
+sub-x c = impervious-le _ _ (c .before .pre .0)
 
-gain-of-requires : tie.Need-gain-of-requires
-gain-of-requires c κs = (c .before .before .before .before .pre .0, omega (arith, c .before .before .before .before .pre .1), omega arith, c .before .before .before .before .pre .2)
+sub-least : tie.Need-sub-least
+sub-least c =
+    let pre = c .before .before .before .pre in
+    rises _ _ _ (pre .0) (pre .1) (pre .2) (pre .4)
 
-sub-t9 : tie.Need-sub-t9
-sub-t9 c = gain-of-x _ _ _ (c .before .before .before .before .before .pre .1) (c .gain-of .ensures) .from-x
+sub-t8 : tie.Need-sub-t8
+sub-t8 c =
+    let pre = c .before .before .before .before .pre in
+    gain-of-x _ _ _ (pre .0) (pre .1) (pre .2) (pre .4) (c .least .ensures) .from-x
 
 fill-requires : tie.Need-fill-requires
-fill-requires c κs = (c .before .before .before .before .before .pre .1, gain-of-x _ _ _ (c .before .before .before .before .before .pre .1) (c .gain-of .ensures) .into-soil, omega (arith, c .before .before .before .before .before .pre .0))
+fill-requires c κs =
+    let pre = c .before .before .before .before .pre in
+    (pre .1, gain-of-x _ _ _ (pre .0) (pre .1) (pre .2) (pre .4) (c .least .ensures) .into-soil, omega (arith, pre .0))
 
-returns-2 : tie.Need-returns-2
-returns-2 c = some-runoff _ _ _ (c .before .before .before .before .before .before .pre .1) (c .before .gain-of .ensures) (c .before .before .before .before .before .if1 .left) (c .fill .ensures)
+returns : tie.Need-returns
+returns c =
+    let pre = c .before .before .before .before .before .pre in
+    some-runoff _ _ _ (pre .0) (pre .1) (pre .2) (pre .4) (c .before .least .ensures) (c .fill .ensures)
 
 pub run-off-spec : {M : Type 1} → statement M
 run-off-spec =
-    tie.close (tie.spec returns mul-rb sub-x (λ c. search needs) (λ c. search needs) gain-of-requires sub-t9 fill-requires returns-2)
+    tie.close (tie.spec mul-rb sub-x (λ c. search needs) (λ c. search needs) sub-least (λ c κs. search needs) sub-t8 fill-requires returns)

@@ -10,11 +10,11 @@ use Rattle.curve.specs.Store.{released, storeCall}
 use Rattle.curve.proofs.store.StoreLaws.{store-accepts, store-within}
 use Rattle.subbasin.specs.declared.record.SubBasin.{SubBasin}
 use Rattle.subbasin.specs.declared.soil.Evaporated.{Evaporated}
-use Rattle.subbasin.specs.declared.soil.Runoff.{Runoff}
-use Rattle.subbasin.specs.declared.free_water.Parted.{Parted}
+use Rattle.subbasin.specs.declared.slices.Sliced.{Sliced}
+use Rattle.subbasin.specs.declared.free_water.Drained.{Drained}
 use Rattle.subbasin.specs.declared.record.LagLine.{LagLine}
 use Rattle.subbasin.specs.Lag.{inUse, leaving, entered}
-use Rattle.subbasin.specs.Step.{slowStore, let-go, total, gathered, with-parted}
+use Rattle.subbasin.specs.Step.{slowStore, let-go, total, gathered, with-drained}
 use Rattle.common.proofs.amounts.AmountLaws.{UpTo, up-to-at}
 use Rattle.subbasin.proofs.record.RecordLaws.{RecordIn, record-limits}
 use Rattle.subbasin.proofs.step.StepLaws.{total-fits}
@@ -44,40 +44,40 @@ leaving-le : (line : LagLine) (t b : ℕ) → t ≤ b → UpTo b (line .waiting)
 unfolding leaving
 leaving-le line t b h k = up-to-at b (t ∷ line .waiting) (inUse line) (h, k)
 
-module _ (s : SubBasin) (ro : Runoff) (pw : Parted) (fits : RecordIn (s .fixed .reach) s) (direct : pw .rs + ro .rb ≤ 1100000) (drained : pw .ri + pw .rg ≤ 100000)
-    {i-store g-store : Store} {i g : Released} (i-made : i-store ≡ slowStore (s .fixed .ci) (s .contents .vi)) (i-taken : i ≡ storeCall i-store (pw .ri))
-    (g-made : g-store ≡ slowStore (s .fixed .cg) (s .contents .vg)) (g-taken : g ≡ storeCall g-store (pw .rg)) where
-  i-is : i ≡ released (slowStore (s .fixed .ci) (s .contents .vi)) (pw .ri)
-  i-is = let ws = fits .in-words in releases (s .fixed .ci) (s .contents .vi) (pw .ri) (omega arith) (omega arith) i-made i-taken
+module _ (s : SubBasin) (sl : Sliced) (dr : Drained) (fits : RecordIn (s .fixed .reach) s) (direct : sl .rs + sl .rb ≤ 1100000) (drains : dr .ri + dr .rg ≤ 100000)
+    {i-store g-store : Store} {i g : Released} (i-made : i-store ≡ slowStore (s .fixed .ci) (s .contents .vi)) (i-taken : i ≡ storeCall i-store (dr .ri))
+    (g-made : g-store ≡ slowStore (s .fixed .cg) (s .contents .vg)) (g-taken : g ≡ storeCall g-store (dr .rg)) where
+  i-is : i ≡ released (slowStore (s .fixed .ci) (s .contents .vi)) (dr .ri)
+  i-is = let ws = fits .in-words in releases (s .fixed .ci) (s .contents .vi) (dr .ri) (omega arith) (omega arith) i-made i-taken
 
-  g-is : g ≡ released (slowStore (s .fixed .cg) (s .contents .vg)) (pw .rg)
-  g-is = let ws = fits .in-words in releases (s .fixed .cg) (s .contents .vg) (pw .rg) (omega arith) (omega arith) g-made g-taken
+  g-is : g ≡ released (slowStore (s .fixed .cg) (s .contents .vg)) (dr .rg)
+  g-is = let ws = fits .in-words in releases (s .fixed .cg) (s .contents .vg) (dr .rg) (omega arith) (omega arith) g-made g-taken
 
-  sums-fit : pw .rs + ro .rb + i .outflow + g .outflow ≤ 2 ^ 35
+  sums-fit : sl .rs + sl .rb + i .outflow + g .outflow ≤ 2 ^ 35
   sums-fit =
       let ws = fits .in-words in
       omega (
         arith,
         ap (λ (r : Released). r .outflow) i-is,
         ap (λ (r : Released). r .outflow) g-is,
-        let-go-le (s .fixed .ci) (s .contents .vi) (pw .ri),
-        let-go-le (s .fixed .cg) (s .contents .vg) (pw .rg),
+        let-go-le (s .fixed .ci) (s .contents .vi) (dr .ri),
+        let-go-le (s .fixed .cg) (s .contents .vg) (dr .rg),
       )
 
-  t-is : (pw .rs + ro .rb + i .outflow + g .outflow) * s .fixed .area ≡ total s ro pw
+  t-is : (sl .rs + sl .rb + i .outflow + g .outflow) * s .fixed .area ≡ total s sl dr
   t-is =
-      ap₂ (λ (x y : ℕ). (pw .rs + ro .rb + x + y) * s .fixed .area) (ap (λ (r : Released). r .outflow) i-is) (ap (λ (r : Released). r .outflow) g-is)
+      ap₂ (λ (x y : ℕ). (sl .rs + sl .rb + x + y) * s .fixed .area) (ap (λ (r : Released). r .outflow) i-is) (ap (λ (r : Released). r .outflow) g-is)
 
-  t-fits : (pw .rs + ro .rb + i .outflow + g .outflow) * s .fixed .area ≤ 2 ^ 47
-  t-fits = omega (arith, t-is, total-fits (s .fixed .reach) s ro pw fits direct drained)
+  t-fits : (sl .rs + sl .rb + i .outflow + g .outflow) * s .fixed .area ≤ 2 ^ 47
+  t-fits = omega (arith, t-is, total-fits (s .fixed .reach) s sl dr fits direct drains)
 
   gathers : (ev : Evaporated) {c-store : Store} {c : Released} {out : ℕ} {line : LagLine}
       → c-store ≡ slowStore (s .fixed .cs) (s .channel) → c ≡ storeCall c-store out
-      → out ≡ leaving (s .line) ((pw .rs + ro .rb + i .outflow + g .outflow) * s .fixed .area)
-      → line ≡ entered (s .line) ((pw .rs + ro .rb + i .outflow + g .outflow) * s .fixed .area)
-      → gathered s ev ro pw (i .store .content) (g .store .content) line (c .store .content) (c .outflow) ≡ with-parted s ev ro pw
+      → out ≡ leaving (s .line) ((sl .rs + sl .rb + i .outflow + g .outflow) * s .fixed .area)
+      → line ≡ entered (s .line) ((sl .rs + sl .rb + i .outflow + g .outflow) * s .fixed .area)
+      → gathered s ev sl dr (i .store .content) (g .store .content) line (c .store .content) (c .outflow) ≡ with-drained s ev sl dr
   gathers ev {c-store} {c} {out} {line} made taken leaves enters =
-      let t : ℕ = (pw .rs + ro .rb + i .outflow + g .outflow) * s .fixed .area in
+      let t : ℕ = (sl .rs + sl .rb + i .outflow + g .outflow) * s .fixed .area in
       let c-is : c ≡ released (slowStore (s .fixed .cs) (s .channel)) out =
       releases (s .fixed .cs) (s .channel) out (fits .in-channel)
       (omega (arith, leaves, leaving-le (s .line) t (2 ^ 50) (omega (arith, t-fits)) (fits .in-line))) made taken in
@@ -91,14 +91,14 @@ module _ (c : tie.After-take2) where
   limits : RecordIn (start .args .s .fixed .reach) (start .args .s)
   limits = record-limits _ _ (start .pre .0)
 
-  sums-at : start .args .pw .rs + start .args .ro .rb + c .before .before .take .result .outflow + c .take2 .result .outflow ≤ 2 ^ 35
+  sums-at : start .args .sl .rs + start .args .sl .rb + c .before .before .take .result .outflow + c .take2 .result .outflow ≤ 2 ^ 35
   sums-at =
-      sums-fit (start .args .s) (start .args .ro) (start .args .pw) limits (start .pre .1) (start .pre .2)
+      sums-fit (start .args .s) (start .args .sl) (start .args .dr) limits (start .pre .1) (start .pre .2)
       (c .before .before .before .slow .ensures) (c .before .before .take .ensures) (c .before .slow2 .ensures) (c .take2 .ensures)
 
-  t-at : (start .args .pw .rs + start .args .ro .rb + c .before .before .take .result .outflow + c .take2 .result .outflow) * start .args .s .fixed .area ≤ 2 ^ 47
+  t-at : (start .args .sl .rs + start .args .sl .rb + c .before .before .take .result .outflow + c .take2 .result .outflow) * start .args .s .fixed .area ≤ 2 ^ 47
   t-at =
-      t-fits (start .args .s) (start .args .ro) (start .args .pw) limits (start .pre .1) (start .pre .2)
+      t-fits (start .args .s) (start .args .sl) (start .args .dr) limits (start .pre .1) (start .pre .2)
       (c .before .before .before .slow .ensures) (c .before .before .take .ensures) (c .before .slow2 .ensures) (c .take2 .ensures)
 
 slow-requires : tie.Need-slow-requires
@@ -108,28 +108,28 @@ slow-requires-2 : tie.Need-slow-requires-2
 slow-requires-2 c κs = route-in _ (record-limits _ _ (c .before .before .before .before .before .pre .0)) .cg-in
 
 add-t-2 : tie.Need-add-t-2
-add-t-2 c = omega (arith, sums-at (c .before .before .before))
+add-t-2 c = omega (arith, sums-at (c .before .before))
 
 add-t-3 : tie.Need-add-t-3
-add-t-3 c = omega (arith, sums-at (c .before .before .before .before))
+add-t-3 c = omega (arith, sums-at (c .before .before .before))
 
 mul-t : tie.Need-mul-t
-mul-t c = omega (arith, t-at (c .before .before .before .before .before))
+mul-t c = omega (arith, t-at (c .before .before .before .before))
 
 slow-requires-3 : tie.Need-slow-requires-3
-slow-requires-3 c κs = route-in _ (record-limits _ _ (c .before .before .before .before .before .before .before .before .before .before .before .before .pre .0)) .cs-in
+slow-requires-3 c κs = route-in _ (record-limits _ _ (c .before .before .before .before .before .before .before .before .before .before .before .pre .0)) .cs-in
 
 leave-requires : tie.Need-leave-requires
-leave-requires c κs = route-in _ (record-limits _ _ (c .before .before .before .before .before .before .before .before .before .before .before .before .before .pre .0)) .lag-in
+leave-requires c κs = route-in _ (record-limits _ _ (c .before .before .before .before .before .before .before .before .before .before .before .before .pre .0)) .lag-in
 
 enter-requires : tie.Need-enter-requires
-enter-requires c κs = route-in _ (record-limits _ _ (c .before .before .before .before .before .before .before .before .before .before .before .before .before .before .before .before .before .before .before .pre .0)) .lag-in
+enter-requires c κs = route-in _ (record-limits _ _ (c .before .before .before .before .before .before .before .before .before .before .before .before .before .before .before .before .before .before .pre .0)) .lag-in
 
 returns : tie.Need-returns
 returns c =
-    let at = c .before .before .before .before .before .before .before .before .before .before .before .before .before .before .before .before .before .before .before .before in
-    gathers (at .args .s) (at .args .ro) (at .args .pw) (record-limits _ _ (at .pre .0)) (at .pre .1) (at .pre .2)
-    (c .before .before .before .before .before .before .before .before .before .before .before .before .before .before .before .before .slow .ensures) (c .before .before .before .before .before .before .before .before .before .before .before .before .before .before .before .take .ensures) (c .before .before .before .before .before .before .before .before .before .before .before .before .before .before .slow2 .ensures) (c .before .before .before .before .before .before .before .before .before .before .before .before .before .take2 .ensures) (at .args .ev)
+    let at = c .before .before .before .before .before .before .before .before .before .before .before .before .before .before .before .before .before .before .before in
+    gathers (at .args .s) (at .args .sl) (at .args .dr) (record-limits _ _ (at .pre .0)) (at .pre .1) (at .pre .2)
+    (c .before .before .before .before .before .before .before .before .before .before .before .before .before .before .before .slow .ensures) (c .before .before .before .before .before .before .before .before .before .before .before .before .before .before .take .ensures) (c .before .before .before .before .before .before .before .before .before .before .before .before .before .slow2 .ensures) (c .before .before .before .before .before .before .before .before .before .before .before .before .take2 .ensures) (at .args .ev)
     (c .before .before .before .before .before .before .before .slow3 .ensures) (c .before .before .before .before .before .take3 .ensures) (c .before .before .before .before .before .before .leave .ensures .0) (c .enter .ensures)
 
 pub route-spec : {M : Type 1} → statement M

@@ -8,16 +8,18 @@ use Rattle.common.specs.declared.weather.Weather.{Weather}
 use Rattle.common.specs.Weather.{mostPan, WeatherIn}
 use Rattle.subbasin.specs.declared.record.SubBasin.{SubBasin}
 use Rattle.subbasin.specs.declared.soil.Evaporated.{Evaporated}
-use Rattle.subbasin.specs.declared.soil.Runoff.{Runoff}
-use Rattle.subbasin.specs.declared.free_water.Parted.{Parted}
+use Rattle.subbasin.specs.declared.slices.Sliced.{Sliced}
+use Rattle.subbasin.specs.declared.free_water.Drained.{Drained}
 use Rattle.subbasin.specs.declared.step.Stepped.{Stepped}
 use Rattle.subbasin.specs.Workers.{SoilIn, LayersIn, FreeIn}
-use Rattle.subbasin.specs.Soil.{ep, evaporated, runoff}
-use Rattle.subbasin.specs.FreeWater.{parted}
-use Rattle.subbasin.specs.Step.{layersOf, with-parted, with-runoff, with-evaporated, stepped}
+use Rattle.subbasin.specs.Soil.{ep, evaporated}
+use Rattle.subbasin.specs.FreeWater.{drained}
+use Rattle.subbasin.specs.Slices.{sliced}
+use Rattle.subbasin.specs.Step.{layersOf, with-drained, with-slices, with-evaporated, stepped}
 use Rattle.subbasin.proofs.record.RecordLaws.{RecordIn, record-limits}
-use Rattle.subbasin.proofs.soil.SoilLaws.{soil-in, layers-in, ep-most, evaporation, evaporation-in, runs}
-use Rattle.subbasin.proofs.free_water.FreeWaterLaws.{Parts, free-in, g-in, parted-parts}
+use Rattle.subbasin.proofs.soil.SoilLaws.{soil-in, layers-in, ep-most, evaporation, evaporation-in}
+use Rattle.subbasin.proofs.free_water.FreeWaterLaws.{free-in, g-in, Drains, drained-drains}
+use Rattle.subbasin.proofs.slices.SlicesLaws.{Falls, sliced-falls}
 use Rattle.subbasin.proofs.step.run.Statement.{statement}
 use Rattle.subbasin.proofs.step.run.Tie as tie
 
@@ -48,24 +50,24 @@ module _ (s : SubBasin) (fits : RecordIn (s .fixed .reach) s) where
     pe-le : ev .pe ≤ w .rain
     pe-le = rw ev-is (evaporation (s .fixed) (layersOf (s .contents)) soil layers (w .rain) (s .fixed .k * w .pan / one) .pe-most)
 
-    module _ {ro : Runoff} (ro-is : ro ≡ runoff (s .fixed) (ev .layers) (ev .pe)) where
-      runoff-le : ro .rb + ro .r ≤ ev .pe
-      runoff-le = rw ro-is (runs (s .fixed) (ev .layers) (ev .pe) soil left-in .most)
+    module _ {sl : Sliced} (sl-is : sl ≡ sliced (s .fixed) (ev .layers) (s .contents .g) (ev .pe)) where
+      falls-in : Falls (s .fixed) (ev .layers) (s .contents .g) (ev .pe) sl
+      falls-in = rw sl-is (sliced-falls (s .fixed) (ev .layers) (s .contents .g) soil left-in free-water-in (ev .pe))
 
-      module _ {pw : Parted} (pw-is : pw ≡ parted (s .fixed) (s .contents .g) (ev .pe) (ro .r)) where
-        parts-in : Parts (s .fixed) (s .contents .g) (ro .r) pw
-        parts-in = rw pw-is (parted-parts (s .fixed) (s .contents .g) (ev .pe) (ro .r) free free-water-in (omega (arith, runoff-le)))
+      direct-le : WeatherIn w → sl .rs + sl .rb ≤ 1100000
+      direct-le h = omega (arith, falls-in .free, falls-in .most, pe-le, free-water-in, free .sm-most)
 
-        direct-le : WeatherIn w → pw .rs + ro .rb ≤ 1100000
-        direct-le h = omega (arith, parts-in .balance, runoff-le, pe-le, free-water-in, free .sm-most)
+      module _ {dr : Drained} (dr-is : dr ≡ drained (s .fixed) (sl .kept)) where
+        drains-in : Drains (sl .kept) dr
+        drains-in = rw dr-is (drained-drains (s .fixed) (sl .kept) free)
 
-        drained-le : pw .ri + pw .rg ≤ 100000
-        drained-le = omega (arith, parts-in .kept-most, free .sm-most)
+        drained-le : dr .ri + dr .rg ≤ 100000
+        drained-le = omega (arith, drains-in, falls-in .kept-most, free .sm-most)
 
-        chained : {r : Stepped} → r ≡ with-parted s ev ro pw → r ≡ stepped s w
+        chained : {r : Stepped} → r ≡ with-drained s ev sl dr → r ≡ stepped s w
         unfolding stepped ep
         chained h =
-            h ∙ ap (λ (x : Parted). with-parted s ev ro x) pw-is ∙ ap (λ (x : Runoff). with-runoff s ev x) ro-is
+            h ∙ ap (λ (x : Drained). with-drained s ev sl x) dr-is ∙ ap (λ (x : Sliced). with-slices s ev x) sl-is
             ∙ ap (λ (x : Evaporated). with-evaporated s x) ev-is
 
 mul-evaporate : tie.Need-mul-evaporate
@@ -79,41 +81,37 @@ evaporate-requires c κs =
     let fits = record-limits _ _ (at .pre .0) in
     (soil (at .args .s) fits, layers (at .args .s) fits, ep-le (at .args .s) fits (at .args .weather) (at .pre .1))
 
-run-off-requires : tie.Need-run-off-requires
-run-off-requires c κs =
+take-slices-requires : tie.Need-take-slices-requires
+take-slices-requires c κs =
     let at = c .before .before .before .before .before .before in
-    let fits = record-limits _ _ (at .pre .0) in (
+    let fits = record-limits _ _ (at .pre .0) in
+    let e = c .before .evaporate .ensures in (
       soil (at .args .s) fits,
-      left-in (at .args .s) fits (at .args .weather) (c .before .evaporate .ensures),
-      omega (arith, at .pre .1 .rain-most, pe-le (at .args .s) fits (at .args .weather) (c .before .evaporate .ensures)),
+      free (at .args .s) fits,
+      left-in (at .args .s) fits (at .args .weather) e,
+      free-water-in (at .args .s) fits,
+      omega (arith, at .pre .1 .rain-most, pe-le (at .args .s) fits (at .args .weather) e),
     )
 
 drain-requires : tie.Need-drain-requires
 drain-requires c κs =
     let at = c .before .before .before .before .before .before .before in
     let fits = record-limits _ _ (at .pre .0) in
-    let e = c .before .before .evaporate .ensures in (
-      free (at .args .s) fits,
-      free-water-in (at .args .s) fits,
-      omega (arith, runoff-le (at .args .s) fits (at .args .weather) e (c .run-off .ensures)),
-      omega (arith, at .pre .1 .rain-most, pe-le (at .args .s) fits (at .args .weather) e),
-    )
+    (free (at .args .s) fits, falls-in (at .args .s) fits (at .args .weather) (c .before .before .evaporate .ensures) (c .take-slices .ensures) .kept-most)
 
 route-requires : tie.Need-route-requires
 route-requires c κs =
     let at = c .before .before .before .before .before .before .before .before in
     let fits = record-limits _ _ (at .pre .0) in
-    let e = c .before .before .before .evaporate .ensures in (
-      at .pre .0,
-      direct-le (at .args .s) fits (at .args .weather) e (c .before .run-off .ensures) (c .drain .ensures) (at .pre .1),
-      drained-le (at .args .s) fits (at .args .weather) e (c .before .run-off .ensures) (c .drain .ensures),
-    )
+    let e = c .before .before .before .evaporate .ensures in
+    let f = c .before .take-slices .ensures in
+    (at .pre .0, direct-le (at .args .s) fits (at .args .weather) e f (at .pre .1), drained-le (at .args .s) fits (at .args .weather) e f (c .drain .ensures))
 
 returns : tie.Need-returns
 returns c =
     let at = c .before .before .before .before .before .before .before .before .before in
     chained (at .args .s) (record-limits _ _ (at .pre .0)) (at .args .weather)
-    (c .before .before .before .before .evaporate .ensures) (c .before .before .run-off .ensures) (c .before .drain .ensures) (c .route .ensures)
+    (c .before .before .before .before .evaporate .ensures) (c .before .before .take-slices .ensures) (c .before .drain .ensures) (c .route .ensures)
 
 pub run-spec : {M : Type 1} → statement M
-run-spec = tie.close (tie.spec mul-evaporate evaporate-requires run-off-requires drain-requires route-requires returns)
+run-spec = tie.close (tie.spec mul-evaporate evaporate-requires take-slices-requires drain-requires route-requires returns)

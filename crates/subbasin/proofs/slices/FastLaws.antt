@@ -1,0 +1,79 @@
+-- Slices at numbers: each definition beside one that computes in a moment, and the law that both are one, as in the curve's FastLaws.
+-- What a slice gave is named once, so that it is worked out once. Assumes nothing.
+use mathlib.Core.Path.{_≡_, refl, ap, _∙_}
+use mathlib.Core.Bool.{cond}
+use Prim.Native.Nat.{ℕ, zero, suc, _+_, _-_, _*_, _/_, min}
+use lib.Dec.{ltb}
+use Rattle.common.specs.Loops.{run}
+use Rattle.curve.proofs.capacity.FastLaws.{fastRise, rise-fast}
+use Rattle.subbasin.specs.declared.record.Parameters.{Parameters}
+use Rattle.subbasin.specs.declared.soil.Layers.{Layers}
+use Rattle.subbasin.specs.declared.soil.Runoff.{Runoff}
+use Rattle.subbasin.specs.declared.slices.Sliced.{Sliced}
+use Rattle.subbasin.specs.Soil.{tension, wm, mm, rb, gain, refilled, runoff}
+use Rattle.subbasin.specs.FreeWater.{ms, level, keep}
+use Rattle.subbasin.specs.Slices.{slices, slice, noSlice, added, further, sliced, unsliced}
+
+unfoldable fastGain : Parameters → ℕ → ℕ → ℕ → ℕ
+unfolding fastRise mm
+fastGain p w pe x = min x (fastRise (wm p) (mm p) (p .bn) w pe - w)
+
+gain-fast : (p : Parameters) (w pe x : ℕ) → gain p w pe x ≡ fastGain p w pe x
+unfolding gain fastGain
+gain-fast p w pe x = rw rise-fast
+
+unfoldable fastRunoff : Parameters → Layers → ℕ → Runoff
+unfolding fastGain rb refilled
+fastRunoff p w pe =
+    let gained = fastGain p (tension w) pe (pe - rb p pe) in
+    cond (ltb 0 pe)
+    (record { rb = rb p pe; r = pe - rb p pe - gained; layers = refilled p w gained })
+    (record { rb = 0; r = 0; layers = w })
+
+runoff-fast : (p : Parameters) (w : Layers) (pe : ℕ) → runoff p w pe ≡ fastRunoff p w pe
+unfolding runoff fastRunoff
+runoff-fast p w pe = simp gain-fast
+
+unfoldable fastKeep : Parameters → ℕ → ℕ → ℕ → ℕ
+unfolding fastRise ms level
+fastKeep p g pe r = cond (ltb 0 r) (min (g + r) (fastRise (p .sm) (ms p) (p .xn) (level p g pe r) pe * r / pe)) g
+
+keep-fast : (p : Parameters) (g pe r : ℕ) → keep p g pe r ≡ fastKeep p g pe r
+unfolding keep fastKeep
+keep-fast p g pe r = rw rise-fast
+
+unfoldable fastFurther : Parameters → ℕ → Sliced → Sliced
+unfolding fastRunoff fastKeep
+fastFurther p pe s =
+    let ro = fastRunoff p (s .layers) pe in
+    added s ro (fastKeep p (s .kept) pe (ro .r))
+
+further-fast : (p : Parameters) (pe : ℕ) (s : Sliced) → further p pe s ≡ fastFurther p pe s
+unfolding further fastFurther
+further-fast p pe s = simp (runoff-fast, keep-fast)
+
+unfoldable fastRun : Parameters → ℕ → ℕ → Sliced → Sliced
+unfolding fastFurther slice
+fastRun p pe zero s = s
+fastRun p pe (suc n) s = fastFurther p (slice pe n) (fastRun p pe n s)
+
+run-fast : (p : Parameters) (pe n : ℕ) (s : Sliced) → run (λ i t. further p (slice pe i) t) n s ≡ fastRun p pe n s
+unfolding run fastRun
+run-fast p pe zero s = refl
+run-fast p pe (suc n) s = further-fast p (slice pe n) _ ∙ ap (fastFurther p (slice pe n)) (run-fast p pe n s)
+
+unfoldable pub fastSliced : Parameters → Layers → ℕ → ℕ → Sliced
+unfolding fastRun slices
+fastSliced p w g pe = fastRun p pe (slices pe) (noSlice w g)
+
+pub sliced-fast : (p : Parameters) (w : Layers) (g pe : ℕ) → sliced p w g pe ≡ fastSliced p w g pe
+unfolding sliced fastSliced
+sliced-fast p w g pe = run-fast p pe (slices pe) (noSlice w g)
+
+unfoldable pub fastUnsliced : Parameters → Layers → ℕ → ℕ → Sliced
+unfolding fastFurther
+fastUnsliced p w g pe = fastFurther p pe (noSlice w g)
+
+pub unsliced-fast : (p : Parameters) (w : Layers) (g pe : ℕ) → unsliced p w g pe ≡ fastUnsliced p w g pe
+unfolding unsliced fastUnsliced
+unsliced-fast p w g pe = further-fast p pe (noSlice w g)

@@ -1,0 +1,102 @@
+-- Net rain in slices: what the slices give is their sum, the stores stay inside after each; and one slice is document 01's own rule.
+-- Assumes nothing.
+use mathlib.Core.Path.{_≡_, refl, ap}
+use Prim.Native.Nat.{ℕ, zero, suc, _+_, _-_, _*_, _≤_, _<_, min}
+use native.Mathlib.Omega.{arith}
+use Rattle.common.specs.Loops.{run}
+use Rattle.subbasin.specs.declared.record.Parameters.{Parameters}
+use Rattle.subbasin.specs.declared.soil.Layers.{Layers}
+use Rattle.subbasin.specs.declared.soil.Runoff.{Runoff}
+use Rattle.subbasin.specs.declared.slices.Sliced.{Sliced}
+use Rattle.subbasin.specs.Workers.{SoilIn, LayersIn}
+use Rattle.subbasin.specs.Soil.{tension, runoff}
+use Rattle.subbasin.specs.FreeWater.{keep}
+use Rattle.subbasin.specs.Slices.{mostSlice, slices, slice, noSlice, further, sliced, unsliced}
+use Rattle.subbasin.proofs.soil.SoilLaws.{Runs, runs}
+use Rattle.subbasin.proofs.free_water.FreeWaterLaws.{Keeps, keeps}
+
+-- Of PE, `fell` has fallen on the layers w and the free water g: runoff and what the layers took are that, RS and what is kept are G and R.
+pub record Falls (p : Parameters) (w : Layers) (g fell : ℕ) (s : Sliced) : Type 0 where
+  pub inside : LayersIn p (s .layers)
+  pub kept-most : s .kept ≤ p .sm
+  pub most : s .rb + s .r ≤ fell
+  pub soil : fell + tension w ≡ s .rb + s .r + tension (s .layers)
+  pub free : g + s .r ≡ s .rs + s .kept
+
+-- the slices before place i, together
+abbrev pub below : ℕ → ℕ → ℕ
+below pe i = min pe (i * mostSlice)
+
+below-none : (pe : ℕ) → below pe 0 ≡ 0
+below-none pe = omega arith
+
+pub below-more : (pe i : ℕ) → below pe i + slice pe i ≡ below pe (suc i)
+unfolding slice
+below-more pe i = omega arith
+
+pub slice-some : (pe i : ℕ) → i < slices pe → 0 < slice pe i
+unfolding slices slice
+slice-some pe i h = omega arith
+
+below-all : (pe : ℕ) → below pe (slices pe) ≡ pe
+unfolding slices
+below-all pe = omega arith
+
+module _ (p : Parameters) (w : Layers) (g : ℕ) (soil-in : SoilIn p) (fits : LayersIn p w) (g-in : g ≤ p .sm) where
+  falls-begin : Falls p w g 0 (noSlice w g)
+  falls-begin = omega arith
+
+  falls-more : (fell pe : ℕ) (s : Sliced) → Falls p w g fell s → Falls p w g (fell + pe) (further p pe s)
+  unfolding further
+  falls-more fell pe s h =
+      let ro : Runoff = runoff p (s .layers) pe in
+      let a : Runs p (s .layers) pe ro = runs p (s .layers) pe soil-in (h .inside) in
+      let b : Keeps p (s .kept) (ro .r) (keep p (s .kept) pe (ro .r)) = keeps p (s .kept) pe (ro .r) (h .kept-most) (omega (arith, a .most)) in
+      record {
+        inside = a .inside;
+        kept-most = omega (arith, b);
+        most = omega (arith, a);
+        soil = omega (arith, a);
+        free = omega (arith, b);
+      }
+
+  pub falls : (pe i : ℕ) → Falls p w g (below pe i) (run (λ k s. further p (slice pe k) s) i (noSlice w g))
+  unfolding run
+  falls pe zero = rw (below-none pe) falls-begin
+  falls pe (suc i) = rw (← below-more pe i) (falls-more (below pe i) (slice pe i) _ (falls pe i))
+
+  -- all of PE has fallen
+  pub sliced-falls : (pe : ℕ) → Falls p w g pe (sliced p w g pe)
+  unfolding sliced
+  sliced-falls pe = rw (below-all pe) at (falls pe (slices pe))
+
+-- no net rain, no slice
+pub sliced-none : (p : Parameters) (w : Layers) (g : ℕ) → sliced p w g 0 ≡ noSlice w g
+unfolding sliced slices run
+sliced-none p w g = refl
+
+-- ---- PE of one slice at most
+
+slices-one : (pe : ℕ) → 0 < pe → pe ≤ mostSlice → slices pe ≡ 1
+unfolding slices
+slices-one pe z h = omega arith
+
+slice-first : (pe : ℕ) → pe ≤ mostSlice → slice pe 0 ≡ pe
+unfolding slice
+slice-first pe h = omega arith
+
+-- no net rain leaves all as it was
+further-none : (p : Parameters) (w : Layers) (g : ℕ) → noSlice w g ≡ further p 0 (noSlice w g)
+unfolding further runoff keep
+further-none p w g = ap (λ (rs : ℕ). record { rb = 0; r = 0; rs = rs; layers = w; kept = g }) none
+  where
+    none : 0 ≡ 0 + (g + 0 - g)
+    none = omega arith
+
+pub once : (p : Parameters) (w : Layers) (g pe : ℕ) → pe ≤ mostSlice → sliced p w g pe ≡ unsliced p w g pe
+unfolding sliced unsliced slices run
+once p w g zero h = further-none p w g
+once p w g (suc n) h = once-more (suc n) (omega arith) h
+  where
+    once-more : (pe : ℕ) → 0 < pe → pe ≤ mostSlice → run (λ k s. further p (slice pe k) s) (slices pe) (noSlice w g) ≡ further p pe (noSlice w g)
+    once-more pe z l = rw (slices-one pe z l, slice-first pe l)
