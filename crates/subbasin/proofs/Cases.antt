@@ -3,12 +3,15 @@ use mathlib.Core.Path.{_≡_, refl}
 use Prim.Native.Nat.{ℕ}
 use lib.ListN.{replicate}
 use Rattle.common.specs.Cases.{Agree}
-use Rattle.curve.specs.Store.{outflow}
+use Rattle.curve.specs.Store.{outflow, content}
 use Rattle.subbasin.specs.declared.step.Stepped.{Stepped}
+use Rattle.subbasin.specs.Soil.{ep, evaporated}
+use Rattle.subbasin.specs.FreeWater.{drained}
+use Rattle.subbasin.specs.Lag.{leaving, waitingAfter, entered}
 use Rattle.subbasin.specs.Step.{stepped, steppedWhole}
 use Rattle.subbasin.specs.Cases.{case-a, weather-a, wholeRain, slicedRain, stepCases}
 use Rattle.subbasin.proofs.slices.FastLaws.{fastSliced, sliced-fast, fastUnsliced, unsliced-fast}
-use Rattle.subbasin.proofs.step.FastLaws.{fastStepped, stepped-fast, fastWhole, whole-fast}
+use Rattle.subbasin.proofs.step.FastLaws.{fastStepped, stepped-fast}
 
 -- 135 mm in one, and in 27 slices
 whole-rain : wholeRain ≡ record { rb = 0; r = 30000; rs = 25556; layers = record { wu = 20000; wl = 60000; wd = 25000 }; kept = 4444 }
@@ -44,8 +47,8 @@ answered r rs rg q wd g vg =
     }
 
 whole-a : steppedWhole case-a weather-a ≡ answered 30000 25556 1111 26666 25000 2222 556
-unfolding fastWhole
-whole-a = whole-fast _ _
+unfolding steppedWhole evaporated ep drained outflow content leaving waitingAfter entered
+whole-a = rw whole-rain
 
 pub step-a : stepped case-a weather-a ≡ answered 29970 20246 2431 22676 25030 4862 1216
 unfolding fastStepped

@@ -8,6 +8,7 @@ use Rattle.common.specs.Cases.{Row, row}
 use Rattle.subbasin.specs.declared.record.SubBasin.{SubBasin}
 use Rattle.subbasin.specs.Record.{ofWords}
 use Rattle.subbasin.specs.declared.slices.Sliced.{Sliced}
+use Rattle.subbasin.specs.declared.step.Stepped.{Stepped}
 use Rattle.subbasin.specs.Soil.{tension}
 use Rattle.subbasin.specs.Slices.{sliced, unsliced}
 use Rattle.subbasin.specs.Step.{layersOf, let-go, stepped, steppedWhole}
@@ -31,29 +32,25 @@ wholeRain = unsliced (case-a .fixed) (layersOf (case-a .contents)) 0 135000
 abbrev pub slicedRain : Sliced
 slicedRain = sliced (case-a .fixed) (layersOf (case-a .contents)) 0 135000
 
--- In one, as document 01 has it: "In step 1: gain 105000, R 30000, keep 4444, RS 25556, RI 1111, TI 555", and Q
-abbrev pub wholeCases : List Row
-wholeCases =
-    row (tension (wholeRain .layers)) 105000
-    ∷ row (steppedWhole case-a weather-a .r) 30000
-    ∷ row (wholeRain .kept) 4444
-    ∷ row (steppedWhole case-a weather-a .rs) 25556
-    ∷ row (steppedWhole case-a weather-a .ri) 1111
-    ∷ row (let-go 32768 0 1111) 555
-    ∷ row (steppedWhole case-a weather-a .q) 26666
+-- a step's rows, of its net rain and of its answer: "gain .., R .., keep .., RS .., RI .., TI ..", and Q
+abbrev pub stepRows : Sliced → Stepped → ℕ → ℕ → ℕ → ℕ → ℕ → ℕ → ℕ → List Row
+stepRows sl st gain r kept rs ri ti q =
+    row (tension (sl .layers)) gain
+    ∷ row (st .r) r
+    ∷ row (sl .kept) kept
+    ∷ row (st .rs) rs
+    ∷ row (st .ri) ri
+    ∷ row (let-go 32768 0 ri) ti
+    ∷ row (st .q) q
     ∷ []
 
--- By slices, in the same order: the second model's figures
+-- In one, with document 01's figures: "In step 1: gain 105000, R 30000, keep 4444, RS 25556, RI 1111, TI 555"
+abbrev pub wholeCases : List Row
+wholeCases = stepRows wholeRain (steppedWhole case-a weather-a) 105000 30000 4444 25556 1111 555 26666
+
+-- By slices, with the second model's
 abbrev pub slicedCases : List Row
-slicedCases =
-    row (tension (slicedRain .layers)) 105030
-    ∷ row (stepped case-a weather-a .r) 29970
-    ∷ row (slicedRain .kept) 9724
-    ∷ row (stepped case-a weather-a .rs) 20246
-    ∷ row (stepped case-a weather-a .ri) 2431
-    ∷ row (let-go 32768 0 2431) 1215
-    ∷ row (stepped case-a weather-a .q) 22676
-    ∷ []
+slicedCases = stepRows slicedRain (stepped case-a weather-a) 105030 29970 9724 20246 2431 1215 22676
 
 abbrev pub stepCases : List Row
 stepCases = wholeCases ++ slicedCases

@@ -9,8 +9,8 @@ use Rattle.subbasin.specs.declared.step.Stepped.{Stepped}
 use Rattle.subbasin.specs.Soil.{ep, deeper, evaporated}
 use Rattle.subbasin.specs.FreeWater.{drained}
 use Rattle.subbasin.specs.Lag.{leaving, waitingAfter, entered}
-use Rattle.subbasin.specs.Step.{evaporation, with-slices, stepped, steppedWhole}
-use Rattle.subbasin.proofs.slices.FastLaws.{fastSliced, sliced-fast, fastUnsliced, unsliced-fast}
+use Rattle.subbasin.specs.Step.{evaporation, with-slices, stepped}
+use Rattle.subbasin.proofs.slices.FastLaws.{fastSliced, sliced-fast}
 
 unfoldable pub fastStepped : SubBasin → Weather → Stepped
 unfolding evaporated deeper ep fastSliced drained outflow content leaving waitingAfter entered
@@ -21,13 +21,3 @@ fastStepped s w =
 pub stepped-fast : (s : SubBasin) (w : Weather) → stepped s w ≡ fastStepped s w
 unfolding stepped fastStepped
 stepped-fast s w = let ev = evaporation s w in ap (λ (sl : Sliced). with-slices s ev sl) (sliced-fast (s .fixed) (ev .layers) (s .contents .g) (ev .pe))
-
-unfoldable pub fastWhole : SubBasin → Weather → Stepped
-unfolding evaporated deeper ep fastUnsliced drained outflow content leaving waitingAfter entered
-fastWhole s w =
-    let ev = evaporation s w in
-    with-slices s ev (fastUnsliced (s .fixed) (ev .layers) (s .contents .g) (ev .pe))
-
-pub whole-fast : (s : SubBasin) (w : Weather) → steppedWhole s w ≡ fastWhole s w
-unfolding steppedWhole fastWhole
-whole-fast s w = let ev = evaporation s w in ap (λ (sl : Sliced). with-slices s ev sl) (unsliced-fast (s .fixed) (ev .layers) (s .contents .g) (ev .pe))
