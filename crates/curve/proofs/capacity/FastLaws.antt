@@ -1,26 +1,47 @@
 -- The curve at numbers: each definition beside one that computes in a moment, and the law that both are one. A proof that opens the
 -- fast one and rewrites by the law is a computation. Assumes nothing.
 use mathlib.Core.Path.{_≡_, refl, _∙_}
+use mathlib.Core.Bool.{Bool, cond, _&&_}
 use Prim.Native.Nat.{ℕ, zero, suc, _+_, _-_, _*_, _/_, _<_, min}
 use native.Mathlib.Nat.{mul-le-mul}
 use native.Mathlib.Omega.{arith}
-use lib.Dec.{leb}
-use borrow.Author.Tests.{le-leb, leb-true}
+use lib.Dec.{leb, ltb}
+use borrow.Author.Tests.{le-leb, leb-true, ltb-true}
 use Rattle.common.specs.Shares.{one}
 use Rattle.common.specs.Loops.{run, greatest}
+use Rattle.common.proofs.Limits.{by-test, parts}
 use Rattle.common.proofs.Greatest.{fastGreatest, greatest-fast}
 use Rattle.curve.specs.Capacity.{root, whole, part, power, shareAbove, held, ordinate, rise}
+use Rattle.curve.proofs.capacity.RootLaws.{root-unique}
 use Rattle.curve.proofs.capacity.HeldLaws.{held-mono, held-zero}
 
+-- Newton's steps from r down to the root of n, k of them at most
+newton : ℕ → ℕ → ℕ → ℕ
+newton zero n r = r
+newton (suc k) n r = cond (leb (r * r) n) r (newton k n ((r + n / r) / 2))
+
+-- whether r is the root of t: the squares tell
+isRoot : ℕ → ℕ → Bool
+isRoot t r = leb (r * r) (t * one) && ltb (t * one) ((r + 1) * (r + 1))
+
+-- by Newton's steps, and where they don't end, by halving
 unfoldable pub fastRoot : ℕ → ℕ
-unfolding fastGreatest
-fastRoot t = fastGreatest (λ r. leb (r * r) (t * one)) (t * one)
+unfolding newton isRoot fastGreatest
+fastRoot t =
+    let r = newton 20 (t * one) ((one + t) / 2) in
+    cond (isRoot t r) r (fastGreatest (λ x. leb (x * x) (t * one)) (t * one))
 
 pub root-fast : (t : ℕ) → root t ≡ fastRoot t
-unfolding root fastRoot
+unfolding root fastRoot isRoot
 root-fast t =
-    greatest-fast (λ r. leb (r * r) (t * one)) (t * one) (le-leb 0 (t * one) (omega arith))
-    (λ i j l _ h. le-leb (i * i) (t * one) (omega (arith, leb-true (j * j) (t * one) h, mul-le-mul {n₁ = i} {m₁ = i} {n₂ = j} {m₂ = j} l l)))
+    let r : ℕ = newton 20 (t * one) ((one + t) / 2) in
+    by-test (λ (x : ℕ). root t ≡ x) (isRoot t r)
+    (λ h.
+    let both = parts (leb (r * r) (t * one)) (ltb (t * one) ((r + 1) * (r + 1))) h in
+    root-unique t r (leb-true (r * r) (t * one) (both .0)) (ltb-true (t * one) ((r + 1) * (r + 1)) (both .1)))
+    (λ _.
+    greatest-fast (λ x. leb (x * x) (t * one)) (t * one) (le-leb 0 (t * one) (omega arith))
+    (λ i j l _ k. le-leb (i * i) (t * one) (omega (arith, leb-true (j * j) (t * one) k, mul-le-mul {n₁ = i} {m₁ = i} {n₂ = j} {m₂ = j} l l))))
 
 unfoldable pub fastPower : ℕ → ℕ → ℕ
 unfolding fastRoot part whole run

@@ -20,7 +20,7 @@ fastGain p w pe x = min x (fastRise (wm p) (mm p) (p .bn) w pe - w)
 
 gain-fast : (p : Parameters) (w pe x : ℕ) → gain p w pe x ≡ fastGain p w pe x
 unfolding gain fastGain
-gain-fast p w pe x = rw rise-fast
+gain-fast p w pe x = ap (λ (top : ℕ). min x (top - w)) (rise-fast (wm p) (mm p) (p .bn) w pe)
 
 unfoldable fastRunoff : Parameters → Layers → ℕ → Runoff
 unfolding fastGain rb refilled
@@ -32,7 +32,10 @@ fastRunoff p w pe =
 
 runoff-fast : (p : Parameters) (w : Layers) (pe : ℕ) → runoff p w pe ≡ fastRunoff p w pe
 unfolding runoff fastRunoff
-runoff-fast p w pe = simp gain-fast
+runoff-fast p w pe =
+    ap
+    (λ (gained : ℕ). cond (ltb 0 pe) (record { rb = rb p pe; r = pe - rb p pe - gained; layers = refilled p w gained }) (record { rb = 0; r = 0; layers = w }))
+    (gain-fast p (tension w) pe (pe - rb p pe))
 
 unfoldable fastKeep : Parameters → ℕ → ℕ → ℕ → ℕ
 unfolding fastRise ms level
@@ -40,7 +43,8 @@ fastKeep p g pe r = cond (ltb 0 r) (min (g + r) (fastRise (p .sm) (ms p) (p .xn)
 
 keep-fast : (p : Parameters) (g pe r : ℕ) → keep p g pe r ≡ fastKeep p g pe r
 unfolding keep fastKeep
-keep-fast p g pe r = rw rise-fast
+keep-fast p g pe r =
+    ap (λ (top : ℕ). cond (ltb 0 r) (min (g + r) (top * r / pe)) g) (rise-fast (p .sm) (ms p) (p .xn) (level p g pe r) pe)
 
 unfoldable fastFurther : Parameters → ℕ → Sliced → Sliced
 unfolding fastRunoff fastKeep
@@ -50,7 +54,9 @@ fastFurther p pe s =
 
 further-fast : (p : Parameters) (pe : ℕ) (s : Sliced) → further p pe s ≡ fastFurther p pe s
 unfolding further fastFurther
-further-fast p pe s = simp (runoff-fast, keep-fast)
+further-fast p pe s =
+    let ro = fastRunoff p (s .layers) pe in
+    ap (λ (x : Runoff). added s x (keep p (s .kept) pe (x .r))) (runoff-fast p (s .layers) pe) ∙ ap (added s ro) (keep-fast p (s .kept) pe (ro .r))
 
 unfoldable fastRun : Parameters → ℕ → ℕ → Sliced → Sliced
 unfolding fastFurther slice
