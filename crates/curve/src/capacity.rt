@@ -233,7 +233,7 @@ fn ordinate_of(roots: &Roots, c: u64, m: u64, e: u64, w: u64, start: u64) -> u64
     let need = ((c - w) * ONE + c - 1) / c;
     let mut lo = 0;
     let mut hi = m;
-    let mut next = first_of(m, e, need, start);
+    let mut next = first_trial(m, e, need, start);
     let mut turns = GUESSES;
     let a = loop {
         if hi - lo <= 1 {
@@ -253,7 +253,7 @@ fn ordinate_of(roots: &Roots, c: u64, m: u64, e: u64, w: u64, start: u64) -> u64
 }
 
 // Where the search begins: at the last ordinate of the start's share, or without a start at a guess.
-fn first_of(m: u64, e: u64, need: u64, start: u64) -> u64
+fn first_trial(m: u64, e: u64, need: u64, start: u64) -> u64
     requires { ⌜ (0 < m) × (m ≤ mostM) × (leastE ≤ e) × (e ≤ mostE) × (need ≤ one + 1) ⌝ }
 {
     if start == 0 {

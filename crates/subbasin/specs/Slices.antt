@@ -30,12 +30,12 @@ added s ro kept =
 
 -- "For each slice in turn RB, X, gain, R, S, S2, keep and RS are worked out with the slice in place of PE, and G is the former keep. The
 -- gain fills the layers after each slice"
-unfoldable pub further : Parameters → ℕ → Sliced → Sliced
-further p pe s = added s (runoff p (s .layers) pe) (keep p (s .kept) pe (runoff p (s .layers) pe .r))
+unfoldable pub afterSlice : Parameters → ℕ → Sliced → Sliced
+afterSlice p pe s = added s (runoff p (s .layers) pe) (keep p (s .kept) pe (runoff p (s .layers) pe .r))
 
 unfoldable pub sliced : Parameters → Layers → ℕ → ℕ → Sliced
-sliced p w g pe = run (λ i s. further p (slice pe i) s) (slices pe) (noSlice w g)
+sliced p w g pe = run (λ i s. afterSlice p (slice pe i) s) (slices pe) (noSlice w g)
 
 -- document 01's own rule, PE in one
 unfoldable pub unsliced : Parameters → Layers → ℕ → ℕ → Sliced
-unsliced p w g pe = further p pe (noSlice w g)
+unsliced p w g pe = afterSlice p pe (noSlice w g)

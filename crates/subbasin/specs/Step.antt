@@ -20,7 +20,7 @@ use Rattle.subbasin.specs.declared.free_water.Drained.{Drained}
 use Rattle.subbasin.specs.declared.slices.Sliced.{Sliced}
 use Rattle.subbasin.specs.Soil.{ep, evaporated}
 use Rattle.subbasin.specs.FreeWater.{drained}
-use Rattle.subbasin.specs.Slices.{mostSlice, sliced, unsliced}
+use Rattle.subbasin.specs.Slices.{sliced, unsliced}
 use Rattle.subbasin.specs.Lag.{leaving, entered}
 
 abbrev pub layersOf : Contents → Layers
@@ -89,19 +89,19 @@ abbrev pub with-slices : SubBasin → Evaporated → Sliced → Stepped
 with-slices s ev sl = with-drained s ev sl (drained (s .fixed) (sl .kept))
 
 -- EU, EL, ED and PE, and the layers they leave
-abbrev pub evaporation : SubBasin → Weather → Evaporated
-evaporation s w = evaporated (s .fixed) (layersOf (s .contents)) (w .rain) (ep (s .fixed) (w .pan))
+abbrev pub evaporatedOf : SubBasin → Weather → Evaporated
+evaporatedOf s w = evaporated (s .fixed) (layersOf (s .contents)) (w .rain) (ep (s .fixed) (w .pan))
 
 abbrev pub with-evaporated : SubBasin → Evaporated → Stepped
 with-evaporated s ev = with-slices s ev (sliced (s .fixed) (ev .layers) (s .contents .g) (ev .pe))
 
 unfoldable pub stepped : SubBasin → Weather → Stepped
-stepped s w = with-evaporated s (evaporation s w)
+stepped s w = with-evaporated s (evaporatedOf s w)
 
 -- the step of document 01, PE in one
 unfoldable pub steppedWhole : SubBasin → Weather → Stepped
 steppedWhole s w =
-    let ev = evaporation s w in
+    let ev = evaporatedOf s w in
     with-slices s ev (unsliced (s .fixed) (ev .layers) (s .contents .g) (ev .pe))
 
 -- 10, place 0, the record as it was, all else 0
@@ -123,4 +123,4 @@ unfoldable pub wholeCall : SubBasin → Weather → Stepped
 wholeCall s w = cond (callIn s w) (steppedWhole s w) (returned s)
 
 abbrev pub AsBefore : SubBasin → Weather → Stepped → Type 0
-AsBefore s w r = evaporation s w .pe ≤ mostSlice → r ≡ wholeCall s w
+AsBefore s w r = evaporatedOf s w .pe ≤ 5000 → r ≡ wholeCall s w

@@ -4,7 +4,7 @@ ghost use mathlib.Core.Bool.{true};
 ghost use Prim.Native.Nat.{_+_, _≤_, _<_};
 ghost use Rattle.curve.specs.Capacity.{curveIn, rise};
 ghost use Rattle.subbasin.specs.Workers.{SoilIn, LayersIn, FreeIn, RoomFor, soilCurve, freeCurve};
-ghost use Rattle.subbasin.specs.Slices.{noSlice, added, further, sliced};
+ghost use Rattle.subbasin.specs.Slices.{noSlice, added, afterSlice, sliced};
 use crate::free_water;
 use crate::record::Parameters;
 use crate::soil;
@@ -97,7 +97,7 @@ fn take_slice(
     pe: u64,
 ) -> Going
     requires { ⌜ SoilIn p × FreeIn p × (soil ≡ soilCurve p) × (free ≡ freeCurve p) × RoomFor p pe (going .given) × (0 < pe) ⌝ }
-    ensures { λ r. ⌜ r .given ≡ further p pe (going .given) ⌝ }
+    ensures { λ r. ⌜ r .given ≡ afterSlice p pe (going .given) ⌝ }
 {
     let s = going.given;
     let w = s.layers;

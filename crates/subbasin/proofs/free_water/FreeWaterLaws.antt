@@ -15,8 +15,7 @@ use Rattle.subbasin.specs.Record.{words}
 use Rattle.subbasin.specs.declared.free_water.Drained.{Drained}
 use Rattle.subbasin.specs.Workers.{FreeIn}
 use Rattle.subbasin.specs.FreeWater.{ms, level, keep, drained}
-use Rattle.common.proofs.Limits.{by-test}
-use Rattle.common.proofs.Limits.{Within}
+use Rattle.common.proofs.Limits.{by-test, Within}
 
 module _ (m v : ℕ) (s : SubBasin) (h : Within (words m v s)) where
   pub free-in : FreeIn (s .fixed)

@@ -12,7 +12,7 @@ use Rattle.subbasin.specs.declared.soil.Runoff.{Runoff}
 use Rattle.subbasin.specs.declared.slices.Sliced.{Sliced}
 use Rattle.subbasin.specs.Soil.{tension, wm, mm, rb, gain, refilled, runoff}
 use Rattle.subbasin.specs.FreeWater.{ms, level, keep}
-use Rattle.subbasin.specs.Slices.{slices, slice, noSlice, added, further, sliced, unsliced}
+use Rattle.subbasin.specs.Slices.{slices, slice, noSlice, added, afterSlice, sliced, unsliced}
 
 unfoldable fastGain : Parameters → ℕ → ℕ → ℕ → ℕ
 unfolding fastRise mm
@@ -46,27 +46,27 @@ unfolding keep fastKeep
 keep-fast p g pe r =
     ap (λ (top : ℕ). cond (ltb 0 r) (min (g + r) (top * r / pe)) g) (rise-fast (p .sm) (ms p) (p .xn) (level p g pe r) pe)
 
-unfoldable fastFurther : Parameters → ℕ → Sliced → Sliced
+unfoldable fastAfterSlice : Parameters → ℕ → Sliced → Sliced
 unfolding fastRunoff fastKeep
-fastFurther p pe s =
+fastAfterSlice p pe s =
     let ro = fastRunoff p (s .layers) pe in
     added s ro (fastKeep p (s .kept) pe (ro .r))
 
-further-fast : (p : Parameters) (pe : ℕ) (s : Sliced) → further p pe s ≡ fastFurther p pe s
-unfolding further fastFurther
-further-fast p pe s =
+after-slice-fast : (p : Parameters) (pe : ℕ) (s : Sliced) → afterSlice p pe s ≡ fastAfterSlice p pe s
+unfolding afterSlice fastAfterSlice
+after-slice-fast p pe s =
     let ro = fastRunoff p (s .layers) pe in
     ap (λ (x : Runoff). added s x (keep p (s .kept) pe (x .r))) (runoff-fast p (s .layers) pe) ∙ ap (added s ro) (keep-fast p (s .kept) pe (ro .r))
 
 unfoldable fastRun : Parameters → ℕ → ℕ → Sliced → Sliced
-unfolding fastFurther slice
+unfolding fastAfterSlice slice
 fastRun p pe zero s = s
-fastRun p pe (suc n) s = fastFurther p (slice pe n) (fastRun p pe n s)
+fastRun p pe (suc n) s = fastAfterSlice p (slice pe n) (fastRun p pe n s)
 
-run-fast : (p : Parameters) (pe n : ℕ) (s : Sliced) → run (λ i t. further p (slice pe i) t) n s ≡ fastRun p pe n s
+run-fast : (p : Parameters) (pe n : ℕ) (s : Sliced) → run (λ i t. afterSlice p (slice pe i) t) n s ≡ fastRun p pe n s
 unfolding run fastRun
 run-fast p pe zero s = refl
-run-fast p pe (suc n) s = further-fast p (slice pe n) _ ∙ ap (fastFurther p (slice pe n)) (run-fast p pe n s)
+run-fast p pe (suc n) s = after-slice-fast p (slice pe n) _ ∙ ap (fastAfterSlice p (slice pe n)) (run-fast p pe n s)
 
 unfoldable pub fastSliced : Parameters → Layers → ℕ → ℕ → Sliced
 unfolding fastRun slices
@@ -77,9 +77,9 @@ unfolding sliced fastSliced
 sliced-fast p w g pe = run-fast p pe (slices pe) (noSlice w g)
 
 unfoldable pub fastUnsliced : Parameters → Layers → ℕ → ℕ → Sliced
-unfolding fastFurther
-fastUnsliced p w g pe = fastFurther p pe (noSlice w g)
+unfolding fastAfterSlice
+fastUnsliced p w g pe = fastAfterSlice p pe (noSlice w g)
 
 pub unsliced-fast : (p : Parameters) (w : Layers) (g pe : ℕ) → unsliced p w g pe ≡ fastUnsliced p w g pe
 unfolding unsliced fastUnsliced
-unsliced-fast p w g pe = further-fast p pe (noSlice w g)
+unsliced-fast p w g pe = after-slice-fast p pe (noSlice w g)

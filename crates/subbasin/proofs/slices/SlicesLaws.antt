@@ -11,7 +11,7 @@ use Rattle.subbasin.specs.declared.slices.Sliced.{Sliced}
 use Rattle.subbasin.specs.Workers.{SoilIn, LayersIn}
 use Rattle.subbasin.specs.Soil.{tension, runoff}
 use Rattle.subbasin.specs.FreeWater.{keep}
-use Rattle.subbasin.specs.Slices.{mostSlice, slices, slice, noSlice, further, sliced, unsliced}
+use Rattle.subbasin.specs.Slices.{mostSlice, slices, slice, noSlice, afterSlice, sliced, unsliced}
 use Rattle.subbasin.proofs.soil.SoilLaws.{Runs, runs}
 use Rattle.subbasin.proofs.free_water.FreeWaterLaws.{Keeps, keeps}
 
@@ -46,8 +46,8 @@ module _ (p : Parameters) (w : Layers) (g : ℕ) (soil-in : SoilIn p) (fits : La
   falls-begin : Falls p w g 0 (noSlice w g)
   falls-begin = omega arith
 
-  falls-more : (fell pe : ℕ) (s : Sliced) → Falls p w g fell s → Falls p w g (fell + pe) (further p pe s)
-  unfolding further
+  falls-more : (fell pe : ℕ) (s : Sliced) → Falls p w g fell s → Falls p w g (fell + pe) (afterSlice p pe s)
+  unfolding afterSlice
   falls-more fell pe s h =
       let ro : Runoff = runoff p (s .layers) pe in
       let a : Runs p (s .layers) pe ro = runs p (s .layers) pe soil-in (h .inside) in
@@ -60,7 +60,7 @@ module _ (p : Parameters) (w : Layers) (g : ℕ) (soil-in : SoilIn p) (fits : La
         free = omega (arith, b);
       }
 
-  pub falls : (pe i : ℕ) → Falls p w g (below pe i) (run (λ k s. further p (slice pe k) s) i (noSlice w g))
+  pub falls : (pe i : ℕ) → Falls p w g (below pe i) (run (λ k s. afterSlice p (slice pe k) s) i (noSlice w g))
   unfolding run
   falls pe zero = rw (below-none pe) falls-begin
   falls pe (suc i) = rw (← below-more pe i) (falls-more (below pe i) (slice pe i) _ (falls pe i))
@@ -86,17 +86,17 @@ unfolding slice
 slice-first pe h = omega arith
 
 -- no net rain leaves all as it was
-further-none : (p : Parameters) (w : Layers) (g : ℕ) → noSlice w g ≡ further p 0 (noSlice w g)
-unfolding further runoff keep
-further-none p w g = ap (λ (rs : ℕ). record { rb = 0; r = 0; rs = rs; layers = w; kept = g }) none
+after-slice-none : (p : Parameters) (w : Layers) (g : ℕ) → noSlice w g ≡ afterSlice p 0 (noSlice w g)
+unfolding afterSlice runoff keep
+after-slice-none p w g = ap (λ (rs : ℕ). record { rb = 0; r = 0; rs = rs; layers = w; kept = g }) none
   where
     none : 0 ≡ 0 + (g + 0 - g)
     none = omega arith
 
-pub once : (p : Parameters) (w : Layers) (g pe : ℕ) → pe ≤ mostSlice → sliced p w g pe ≡ unsliced p w g pe
+pub sliced-once : (p : Parameters) (w : Layers) (g pe : ℕ) → pe ≤ mostSlice → sliced p w g pe ≡ unsliced p w g pe
 unfolding sliced unsliced slices run
-once p w g zero h = further-none p w g
-once p w g (suc n) h = once-more (suc n) (omega arith) h
+sliced-once p w g zero h = after-slice-none p w g
+sliced-once p w g (suc n) h = one-slice (suc n) (omega arith) h
   where
-    once-more : (pe : ℕ) → 0 < pe → pe ≤ mostSlice → run (λ k s. further p (slice pe k) s) (slices pe) (noSlice w g) ≡ further p pe (noSlice w g)
-    once-more pe z l = rw (slices-one pe z l, slice-first pe l)
+    one-slice : (pe : ℕ) → 0 < pe → pe ≤ mostSlice → run (λ k s. afterSlice p (slice pe k) s) (slices pe) (noSlice w g) ≡ afterSlice p pe (noSlice w g)
+    one-slice pe z l = rw (slices-one pe z l, slice-first pe l)

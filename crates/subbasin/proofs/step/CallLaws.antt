@@ -13,9 +13,9 @@ use Rattle.subbasin.specs.declared.step.Stepped.{Stepped}
 use Rattle.subbasin.specs.declared.slices.Sliced.{Sliced}
 use Rattle.subbasin.specs.Record.{recordIn}
 use Rattle.subbasin.specs.Slices.{mostSlice}
-use Rattle.subbasin.specs.Step.{with-slices, evaporation, stepped, steppedWhole, returned, callIn, subCall, wholeCall}
+use Rattle.subbasin.specs.Step.{with-slices, evaporatedOf, stepped, steppedWhole, returned, callIn, subCall, wholeCall}
 use Rattle.subbasin.proofs.record.RecordLaws.{RecordIn, record-in, record-limits}
-use Rattle.subbasin.proofs.slices.SlicesLaws.{once}
+use Rattle.subbasin.proofs.slices.SlicesLaws.{sliced-once}
 
 -- the limits of the call
 pub record CallIn (s : SubBasin) (w : Weather) : Type 0 where
@@ -49,8 +49,8 @@ module _ (s : SubBasin) (w : Weather) where
       by-test (λ (st : Stepped). st .number ≡ 0 → CallIn s w) (callIn s w) (λ t e. call-limits t) (λ t e. absurd (omega arith))
 
   -- with PE of one slice at most
-  pub call-whole : evaporation s w .pe ≤ mostSlice → subCall s w ≡ wholeCall s w
+  pub call-whole : evaporatedOf s w .pe ≤ mostSlice → subCall s w ≡ wholeCall s w
   unfolding subCall wholeCall stepped steppedWhole
   call-whole h =
-      let ev = evaporation s w in
-      ap (λ (sl : Sliced). cond (callIn s w) (with-slices s ev sl) (returned s)) (once (s .fixed) (ev .layers) (s .contents .g) (ev .pe) h)
+      let ev = evaporatedOf s w in
+      ap (λ (sl : Sliced). cond (callIn s w) (with-slices s ev sl) (returned s)) (sliced-once (s .fixed) (ev .layers) (s .contents .g) (ev .pe) h)

@@ -9,15 +9,15 @@ use Rattle.subbasin.specs.declared.step.Stepped.{Stepped}
 use Rattle.subbasin.specs.Soil.{ep, deeper, evaporated}
 use Rattle.subbasin.specs.FreeWater.{drained}
 use Rattle.subbasin.specs.Lag.{leaving, waitingAfter, entered}
-use Rattle.subbasin.specs.Step.{evaporation, with-slices, stepped}
+use Rattle.subbasin.specs.Step.{evaporatedOf, with-slices, stepped}
 use Rattle.subbasin.proofs.slices.FastLaws.{fastSliced, sliced-fast}
 
 unfoldable pub fastStepped : SubBasin → Weather → Stepped
 unfolding evaporated deeper ep fastSliced drained outflow content leaving waitingAfter entered
 fastStepped s w =
-    let ev = evaporation s w in
+    let ev = evaporatedOf s w in
     with-slices s ev (fastSliced (s .fixed) (ev .layers) (s .contents .g) (ev .pe))
 
 pub stepped-fast : (s : SubBasin) (w : Weather) → stepped s w ≡ fastStepped s w
 unfolding stepped fastStepped
-stepped-fast s w = let ev = evaporation s w in ap (λ (sl : Sliced). with-slices s ev sl) (sliced-fast (s .fixed) (ev .layers) (s .contents .g) (ev .pe))
+stepped-fast s w = let ev = evaporatedOf s w in ap (λ (sl : Sliced). with-slices s ev sl) (sliced-fast (s .fixed) (ev .layers) (s .contents .g) (ev .pe))

@@ -27,8 +27,8 @@ abbrev μ-loop : tie.MeasureT-loop
 returns : tie.Need-returns Inv-loop μ-loop
 returns c = sym (ap (ordinate _ _ _) (c .if1 .taken) ∙ ordinate-full _ _ _ (c .before .pre .1) (c .before .pre .3))
 
-first-of-requires : tie.Need-first-of-requires Inv-loop μ-loop
-first-of-requires c κs = omega (arith, need-le (c .before .args .c) (c .before .args .w))
+first-trial-requires : tie.Need-first-trial-requires Inv-loop μ-loop
+first-trial-requires c κs = omega (arith, need-le (c .before .args .c) (c .before .args .w))
 
 loop-holds : tie.Need-loop-holds Inv-loop μ-loop
 loop-holds c =
@@ -56,5 +56,5 @@ pub ordinate-of-spec : {M : Type 1} → statement M
 ordinate-of-spec =
     tie.close
     (tie.spec Inv-loop μ-loop returns (λ c. omega arith) (λ c. omega arith) (λ c. omega arith) (λ c. omega arith) (λ c. omega arith)
-    first-of-requires loop-holds (λ c. omega arith) (λ c κs. omega arith) (λ c κs. omega arith) guess-requires (λ c κs. tt)
+    first-trial-requires loop-holds (λ c. omega arith) (λ c κs. omega arith) (λ c κs. omega arith) guess-requires (λ c κs. tt)
     (λ c. omega arith) loop-again (λ c. omega arith) loop-again-2 returns-2)

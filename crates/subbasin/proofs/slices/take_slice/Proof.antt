@@ -13,7 +13,7 @@ use Rattle.subbasin.specs.declared.slices.Curve.{Curve}
 use Rattle.subbasin.specs.Workers.{SoilIn, LayersIn, FreeIn, RoomFor, soilCurve, freeCurve}
 use Rattle.subbasin.specs.Soil.{tension, wm, mm, runoff}
 use Rattle.subbasin.specs.FreeWater.{ms, level, keep}
-use Rattle.subbasin.specs.Slices.{added, further}
+use Rattle.subbasin.specs.Slices.{added, afterSlice}
 use Rattle.subbasin.proofs.soil.SoilLaws.{tension-curve, runs}
 use Rattle.subbasin.proofs.free_water.FreeWaterLaws.{free-curve, level-le, keep-none, Keeps, keeps}
 use borrow.Author.Needs.{needs}
@@ -45,8 +45,8 @@ module _ (p : Parameters) (pe : ℕ) (s : Sliced) (soil : SoilIn p) (room : Room
     sums-fit : (s .rb + s .r + ro .rb + ro .r ≤ 1000000) × (s .rs + s .kept + ro .r ≤ 1100000) × (kept ≤ s .kept + ro .r)
     sums-fit = omega (arith, runoff-le, room .runoff-most, room .free-most, keeps-it .within-all)
 
-    adds : {given : Sliced} → given ≡ added s ro kept → given ≡ further p pe s
-    unfolding further
+    adds : {given : Sliced} → given ≡ added s ro kept → given ≡ afterSlice p pe s
+    unfolding afterSlice
     adds h = h ∙ ap (added s ro) kept-is ∙ ap (λ (x : Runoff). added s x (keep p (s .kept) pe (x .r))) ro-is
 
 raise-requires : tie.Need-raise-requires

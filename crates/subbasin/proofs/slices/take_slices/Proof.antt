@@ -6,30 +6,27 @@ use Rattle.common.proofs.Loops.{Carrying, carry-begin, carry-turn, carry-end}
 use Rattle.subbasin.specs.declared.record.Parameters.{Parameters}
 use Rattle.subbasin.specs.declared.soil.Layers.{Layers}
 use Rattle.subbasin.specs.declared.slices.Sliced.{Sliced}
+use Rattle.subbasin.specs.declared.slices.Curve.{Curve}
 use Rattle.subbasin.specs.Workers.{SoilIn, LayersIn, FreeIn, RoomFor, soilCurve, freeCurve}
-use Rattle.subbasin.specs.Soil.{wm, mm}
-use Rattle.subbasin.specs.FreeWater.{ms}
-use Rattle.subbasin.specs.Slices.{mostSlice, slices, slice, noSlice, further, sliced}
+use Rattle.subbasin.specs.Slices.{mostSlice, slices, slice, noSlice, afterSlice, sliced}
 use Rattle.subbasin.proofs.slices.SlicesLaws.{Falls, falls, below, below-more, slice-some, sliced-none}
 use borrow.Author.Needs.{needs}
 use Rattle.subbasin.proofs.slices.take_slices.Statement.{statement}
 use Rattle.subbasin.proofs.slices.take_slices.Tie as tie
 
-abbrev Going : Parameters → ℕ → Sliced → ℕ → Sliced → Type 0
-Going p pe s₀ i s = Carrying (λ k t. further p (slice pe k) t) s₀ (slices pe) i s
+abbrev Slicing : Parameters → ℕ → Sliced → ℕ → Sliced → Type 0
+Slicing p pe s₀ i s = Carrying (λ k t. afterSlice p (slice pe k) t) s₀ (slices pe) i s
 
-soil-is : (p : Parameters) {m : ℕ} → m ≡ mm p → record { c = wm p; m = m; e = p .bn } ≡ soilCurve p
-soil-is p e = ap (λ (m : ℕ). record { c = wm p; m = m; e = p .bn }) e
-
-free-is : (p : Parameters) {m : ℕ} → m ≡ ms p → record { c = p .sm; m = m; e = p .xn } ≡ freeCurve p
-free-is p e = ap (λ (m : ℕ). record { c = p .sm; m = m; e = p .xn }) e
+-- a curve is made with its greatest point capacity
+curve-is : (k : Curve) {m : ℕ} → m ≡ k .m → record { c = k .c; m = m; e = k .e } ≡ k
+curve-is k e = ap (λ (m : ℕ). record { c = k .c; m = m; e = k .e }) e
 
 slice-is : (pe i : ℕ) {x : ℕ} → x ≡ min mostSlice (pe - i * mostSlice) → x ≡ slice pe i
 unfolding slice
 slice-is pe i h = h
 
 module _ (p : Parameters) (w : Layers) (g pe : ℕ) (soil : SoilIn p) (free : FreeIn p) (fits : LayersIn p w) (g-in : g ≤ p .sm) (most : pe ≤ 1000000)
-    {s₀ s : Sliced} {i : ℕ} (from : s₀ ≡ noSlice w g) (h : Going p pe s₀ i s) where
+    {s₀ s : Sliced} {i : ℕ} (from : s₀ ≡ noSlice w g) (h : Slicing p pe s₀ i s) where
   falls-here : Falls p w g (below pe i) s
   falls-here = rw (h .so-far, from) (falls p w g soil fits g-in pe i)
 
@@ -44,7 +41,7 @@ module _ (p : Parameters) (w : Layers) (g pe : ℕ) (soil : SoilIn p) (free : Fr
         free-most = omega (arith, here .free, here .most, next, e, free .sm-most, g-in);
       }
 
-ends : (p : Parameters) (w : Layers) (g pe : ℕ) {s₀ s : Sliced} {i : ℕ} → s₀ ≡ noSlice w g → Going p pe s₀ i s → slices pe ≤ i → s ≡ sliced p w g pe
+ends : (p : Parameters) (w : Layers) (g pe : ℕ) {s₀ s : Sliced} {i : ℕ} → s₀ ≡ noSlice w g → Slicing p pe s₀ i s → slices pe ≤ i → s ≡ sliced p w g pe
 unfolding sliced
 ends p w g pe from h l = carry-end h l ∙ rw from
 
@@ -61,7 +58,7 @@ unfolding slices
 past-slices pe h = h
 
 abbrev Inv-loop : tie.InvT-loop
-Inv-loop roots p g pe soil free going₀ i₀ end going i = Going p pe (going₀ .given) i (going .given)
+Inv-loop roots p g pe soil free going₀ i₀ end going i = Slicing p pe (going₀ .given) i (going .given)
 
 abbrev μ-loop : tie.MeasureT-loop
 μ-loop roots p g pe soil free going₀ i₀ end going i = end - i
@@ -78,8 +75,8 @@ take-slice-requires c κs =
     let here = slice-is (at .args .pe) (c .before .before .loop .i) (c .least .ensures) in (
       at .pre .0,
       at .pre .1,
-      soil-is (at .args .p) (c .before .before .before .before .before .most-point .ensures),
-      free-is (at .args .p) (c .before .before .before .before .most-point2 .ensures),
+      curve-is (soilCurve (at .args .p)) (c .before .before .before .before .before .most-point .ensures),
+      curve-is (freeCurve (at .args .p)) (c .before .before .before .before .most-point2 .ensures),
       room (at .args .p) (at .args .w) (at .args .g) (at .args .pe) (at .pre .0) (at .pre .1) (at .pre .2) (at .pre .3) (at .pre .4)
           (c .before .before .before .begin2 .ensures) (c .before .before .loop .inv) here,
       omega (arith, here, slice-some (at .args .pe) (c .before .before .loop .i) (in-slices (at .args .pe) (c .before .loop-test .taken))),
@@ -89,7 +86,7 @@ loop-again : tie.Need-loop-again Inv-loop μ-loop
 loop-again c =
     let at = c .before .before .before .before .before .before .before .before .before .before in
     carry-turn (c .before .before .before .loop .inv) (in-slices (at .args .pe) (c .before .before .loop-test .taken))
-    (c .take-slice .ensures ∙ ap (λ (x : ℕ). further (at .args .p) x (c .before .before .before .loop .going .given)) (slice-is (at .args .pe) (c .before .before .before .loop .i) (c .before .least .ensures)))
+    (c .take-slice .ensures ∙ ap (λ (x : ℕ). afterSlice (at .args .p) x (c .before .before .before .loop .going .given)) (slice-is (at .args .pe) (c .before .before .before .loop .i) (c .before .least .ensures)))
 
 returns-2 : tie.Need-returns-2 Inv-loop μ-loop
 returns-2 c =
