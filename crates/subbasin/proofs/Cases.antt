@@ -10,12 +10,12 @@ use Rattle.subbasin.specs.FreeWater.{drained}
 use Rattle.subbasin.specs.Lag.{leaving, waitingAfter, entered}
 use Rattle.subbasin.specs.Step.{stepped, steppedWhole}
 use Rattle.subbasin.specs.Cases.{case-a, weather-a, wholeRain, slicedRain, stepCases}
-use Rattle.subbasin.proofs.slices.FastLaws.{fastSliced, sliced-fast, fastUnsliced, unsliced-fast}
+use Rattle.subbasin.proofs.slices.FastLaws.{fastSliced, sliced-fast, fastAfterSlice, unsliced-fast}
 use Rattle.subbasin.proofs.step.FastLaws.{fastStepped, stepped-fast}
 
 -- 135 mm in one, and in 27 slices
 whole-rain : wholeRain ≡ record { rb = 0; r = 30000; rs = 25556; layers = record { wu = 20000; wl = 60000; wd = 25000 }; kept = 4444 }
-unfolding fastUnsliced
+unfolding fastAfterSlice
 whole-rain = unsliced-fast _ _ _ _
 
 sliced-rain : slicedRain ≡ record { rb = 0; r = 29970; rs = 20246; layers = record { wu = 20000; wl = 60000; wd = 25030 }; kept = 9724 }

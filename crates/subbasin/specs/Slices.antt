@@ -36,6 +36,9 @@ afterSlice p pe s = added s (runoff p (s .layers) pe) (keep p (s .kept) pe (runo
 unfoldable pub sliced : Parameters → Layers → ℕ → ℕ → Sliced
 sliced p w g pe = run (λ i s. afterSlice p (slice pe i) s) (slices pe) (noSlice w g)
 
--- document 01's own rule, PE in one
+-- document 01's own rule, PE in one: "RS = G + R − keep"
 unfoldable pub unsliced : Parameters → Layers → ℕ → ℕ → Sliced
-unsliced p w g pe = afterSlice p pe (noSlice w g)
+unsliced p w g pe =
+    let ro = runoff p w pe in
+    let kept = keep p g pe (ro .r) in
+    record { rb = ro .rb; r = ro .r; rs = g + ro .r - kept; layers = ro .layers; kept = kept }

@@ -1,6 +1,6 @@
 -- Slices at numbers: each definition beside one that computes in a moment, and the law that both are one, as in the curve's FastLaws.
 -- What a slice gave is named once, so that it is worked out once. Assumes nothing.
-use mathlib.Core.Path.{_≡_, refl, ap, _∙_}
+use mathlib.Core.Path.{_≡_, refl, sym, ap, _∙_}
 use mathlib.Core.Bool.{cond}
 use Prim.Native.Nat.{ℕ, zero, suc, _+_, _-_, _*_, _/_, min}
 use lib.Dec.{ltb}
@@ -13,6 +13,7 @@ use Rattle.subbasin.specs.declared.slices.Sliced.{Sliced}
 use Rattle.subbasin.specs.Soil.{tension, wm, mm, rb, gain, refilled, runoff}
 use Rattle.subbasin.specs.FreeWater.{ms, level, keep}
 use Rattle.subbasin.specs.Slices.{slices, slice, noSlice, added, afterSlice, sliced, unsliced}
+use Rattle.subbasin.proofs.slices.SlicesLaws.{first-slice}
 
 unfoldable fastGain : Parameters → ℕ → ℕ → ℕ → ℕ
 unfolding fastRise mm
@@ -46,7 +47,7 @@ unfolding keep fastKeep
 keep-fast p g pe r =
     ap (λ (top : ℕ). cond (ltb 0 r) (min (g + r) (top * r / pe)) g) (rise-fast (p .sm) (ms p) (p .xn) (level p g pe r) pe)
 
-unfoldable fastAfterSlice : Parameters → ℕ → Sliced → Sliced
+unfoldable pub fastAfterSlice : Parameters → ℕ → Sliced → Sliced
 unfolding fastRunoff fastKeep
 fastAfterSlice p pe s =
     let ro = fastRunoff p (s .layers) pe in
@@ -76,10 +77,5 @@ pub sliced-fast : (p : Parameters) (w : Layers) (g pe : ℕ) → sliced p w g pe
 unfolding sliced fastSliced
 sliced-fast p w g pe = run-fast p pe (slices pe) (noSlice w g)
 
-unfoldable pub fastUnsliced : Parameters → Layers → ℕ → ℕ → Sliced
-unfolding fastAfterSlice
-fastUnsliced p w g pe = fastAfterSlice p pe (noSlice w g)
-
-pub unsliced-fast : (p : Parameters) (w : Layers) (g pe : ℕ) → unsliced p w g pe ≡ fastUnsliced p w g pe
-unfolding unsliced fastUnsliced
-unsliced-fast p w g pe = after-slice-fast p pe (noSlice w g)
+pub unsliced-fast : (p : Parameters) (w : Layers) (g pe : ℕ) → unsliced p w g pe ≡ fastAfterSlice p pe (noSlice w g)
+unsliced-fast p w g pe = sym (first-slice p w g pe) ∙ after-slice-fast p pe (noSlice w g)

@@ -1,6 +1,6 @@
 -- Net rain in slices: what the slices give is their sum, the stores stay inside after each; and one slice is document 01's own rule.
 -- Assumes nothing.
-use mathlib.Core.Path.{_≡_, refl, ap}
+use mathlib.Core.Path.{_≡_, refl}
 use Prim.Native.Nat.{ℕ, zero, suc, _+_, _-_, _*_, _≤_, _<_, min}
 use native.Mathlib.Omega.{arith}
 use Rattle.common.specs.Loops.{run}
@@ -85,18 +85,24 @@ slice-first : (pe : ℕ) → pe ≤ mostSlice → slice pe 0 ≡ pe
 unfolding slice
 slice-first pe h = omega arith
 
+same-sums : {w : Layers} {rb rb′ r r′ rs rs′ kept kept′ : ℕ} → rb ≡ rb′ → r ≡ r′ → rs ≡ rs′ → kept ≡ kept′
+    → _≡_ {A = Sliced} (record { rb = rb; r = r; rs = rs; layers = w; kept = kept }) (record { rb = rb′; r = r′; rs = rs′; layers = w; kept = kept′ })
+same-sums a b c d = rw (a, b, c, d)
+
 -- no net rain leaves all as it was
-after-slice-none : (p : Parameters) (w : Layers) (g : ℕ) → noSlice w g ≡ afterSlice p 0 (noSlice w g)
-unfolding afterSlice runoff keep
-after-slice-none p w g = ap (λ (rs : ℕ). record { rb = 0; r = 0; rs = rs; layers = w; kept = g }) none
-  where
-    none : 0 ≡ 0 + (g + 0 - g)
-    none = omega arith
+unsliced-none : (p : Parameters) (w : Layers) (g : ℕ) → noSlice w g ≡ unsliced p w g 0
+unfolding unsliced runoff keep
+unsliced-none p w g = same-sums refl refl (omega arith) refl
+
+-- the first slice is added to nothing
+pub first-slice : (p : Parameters) (w : Layers) (g pe : ℕ) → afterSlice p pe (noSlice w g) ≡ unsliced p w g pe
+unfolding afterSlice unsliced
+first-slice p w g pe = same-sums (omega arith) (omega arith) (omega arith) (omega arith)
 
 pub sliced-once : (p : Parameters) (w : Layers) (g pe : ℕ) → pe ≤ mostSlice → sliced p w g pe ≡ unsliced p w g pe
-unfolding sliced unsliced slices run
-sliced-once p w g zero h = after-slice-none p w g
+unfolding sliced slices run
+sliced-once p w g zero h = unsliced-none p w g
 sliced-once p w g (suc n) h = one-slice (suc n) (omega arith) h
   where
-    one-slice : (pe : ℕ) → 0 < pe → pe ≤ mostSlice → run (λ k s. afterSlice p (slice pe k) s) (slices pe) (noSlice w g) ≡ afterSlice p pe (noSlice w g)
-    one-slice pe z l = rw (slices-one pe z l, slice-first pe l)
+    one-slice : (pe : ℕ) → 0 < pe → pe ≤ mostSlice → run (λ k s. afterSlice p (slice pe k) s) (slices pe) (noSlice w g) ≡ unsliced p w g pe
+    one-slice pe z l = rw (slices-one pe z l, slice-first pe l) (first-slice p w g pe)
