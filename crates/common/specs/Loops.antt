@@ -1,4 +1,4 @@
--- What is said of the numbers 0, 1, .. below a count, one for each kind of loop; and "greatest".
+-- What is said of the numbers 0, 1, .. below a count, one for each kind of loop; and "greatest" and "least".
 use Prim.Native.Nat.{ℕ, zero, suc, _+_}
 use mathlib.Core.Bool.{Bool, true, cond, _&&_}
 use mathlib.Core.List.{List}
@@ -40,3 +40,8 @@ firstBad number (suc n) =
 unfoldable pub greatest : (ℕ → Bool) → ℕ → ℕ
 greatest p zero = zero
 greatest p (suc n) = cond (p (suc n)) (suc n) (greatest p n)
+
+-- the least whole number up to the bound at which p holds, and the bound where there is none
+unfoldable pub least : (ℕ → Bool) → ℕ → ℕ
+least p zero = zero
+least p (suc n) = cond (p zero) zero (suc (least (λ k. p (suc k)) n))
