@@ -2,5 +2,6 @@
 pub mod RootLaws
 pub mod PowerLaws
 pub mod HeldLaws
+pub mod ShareLaws
 pub mod FastLaws
 pub mod CallLaws

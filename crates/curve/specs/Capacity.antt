@@ -5,7 +5,7 @@ use Prim.Native.Nat.{ℕ, _+_, _-_, _*_, _/_, _%_, min}
 use lib.Dec.{leb, eqb}
 use Rattle.common.specs.Shares.{one}
 use Rattle.common.specs.Limits.{within}
-use Rattle.common.specs.Loops.{run, table, greatest}
+use Rattle.common.specs.Loops.{run, table, greatest, least}
 use Rattle.curve.specs.declared.capacity.Answer.{Answer}
 
 -- "greatest whole r with r × r ≤ t × 65,536"; such an r is at most t × 65,536 itself
@@ -48,6 +48,18 @@ held c m e a = c - c * power (shareAbove m a) e / one
 -- Ordinate(w) is the greatest a with Held(a) ≤ w
 unfoldable pub ordinate : ℕ → ℕ → ℕ → ℕ → ℕ
 ordinate c m e w = greatest (λ a. leb (held c m e a) w) m
+
+-- Document 02, No. 4: "c − c × Power(t, e) / 65,536", what is held below an ordinate with the share t above it
+unfoldable pub heldAt : ℕ → ℕ → ℕ → ℕ
+heldAt c e t = c - c * power t e / one
+
+-- "t the least for which" that "is at most w"
+unfoldable pub leastShare : ℕ → ℕ → ℕ → ℕ
+leastShare c e w = least (λ t. leb (heldAt c e t) w) one
+
+-- "m less t × m / 65,536, this last division rounded up"
+unfoldable pub lastAbove : ℕ → ℕ → ℕ
+lastAbove m t = m - (t * m + (one - 1)) / one
 
 -- "Held(min(Ordinate(w) + PE, m))": what is held once PE has come on top of w
 unfoldable pub rise : ℕ → ℕ → ℕ → ℕ → ℕ → ℕ

@@ -8,3 +8,7 @@ use Rattle.curve.specs.Capacity.{root, printedRoots}
 pub record Leads (roots : List ℕ) (t r : ℕ) : Type 0 where
   pub most : r < 2 ^ 32
   pub root-or-next : roots ≡ printedRoots → (root t ≤ r) × (r ≤ root t + 1)
+
+-- logarithms are in parts of 2^24
+abbrev pub log : ℕ
+log = 16777216

@@ -3,12 +3,14 @@ ghost use mathlib.Core.Path.{_≡_};
 ghost use mathlib.Core.Bool.{not};
 ghost use Prim.Native.Nat.{_+_, _≤_, _<_};
 ghost use Rattle.common.specs.Shares.{one};
-ghost use Rattle.curve.specs.Capacity.{printedRoots, held, ordinate};
+ghost use Rattle.curve.specs.Capacity.{printedRoots, held, heldAt, leastShare, ordinate};
 ghost use Rattle.curve.specs.Capacity.{leastE, mostE, mostC, mostM, curveIn, value, refused, rootCall, powerCall, heldCall, ordinateCall};
+use crate::guesses;
 use crate::powers;
 use crate::powers::NEWTON;
 use crate::powers::TABLE;
 use crate::roots;
+use common::amounts::least;
 use common::shares::ONE;
 
 // A table of roots, to be lent: whatever stands in it, an answer is the same, and by the printed one it comes soonest.
@@ -29,9 +31,6 @@ const MOST_E: u64 = 48;
 const MOST_C: u64 = 500000;
 
 const MOST_M: u64 = 2000000;
-
-// The turns of an ordinate search that try a guess.
-const GUESSES: u64 = 8;
 
 // The greatest r with r * r <= t * 65,536, by Newton's steps.
 pub fn root(t: u64) -> Answer
@@ -115,20 +114,13 @@ pub fn held_with(roots: &Roots, c: u64, m: u64, e: u64, a: u64) -> Answer
 pub fn ordinate_with(roots: &Roots, c: u64, m: u64, e: u64, w: u64) -> Answer
     ensures { λ r. ⌜ r ≡ ordinateCall c m e w ⌝ }
 {
-    ordinate_from(roots, c, m, e, w, 0)
-}
-
-// Ordinate, searched from a point. Whatever the point, the answer is the same, and from a near one it comes soonest; 0 stands for none.
-pub fn ordinate_from(roots: &Roots, c: u64, m: u64, e: u64, w: u64, start: u64) -> Answer
-    ensures { λ r. ⌜ r ≡ ordinateCall c m e w ⌝ }
-{
     if outside(c, m, e) {
         return refuse();
     }
     if c < w {
         return refuse();
     }
-    accept(ordinate_of(roots, c, m, e, w, start))
+    accept(ordinate_of(roots, c, m, e, w))
 }
 
 fn accept(v: u64) -> Answer
@@ -192,131 +184,75 @@ fn power_by(led: bool, t: u64, e: u64) -> Answer
     accept(powers::power_of(led, &roots, t, e))
 }
 
-// A point of the curve: the share above it, the power of that share, and what is held below it.
-struct Point {
-    share: u64,
-    power: u64,
-    held: u64,
-}
-
-fn point_at(roots: &Roots, c: u64, m: u64, e: u64, a: u64) -> Point
-    requires { ⌜ (c ≤ mostC) × (0 < m) × (m ≤ mostM) × (a ≤ m) ⌝ }
-    ensures { λ r. ⌜ (r .held ≡ held c m e a) × (r .share ≤ one) × (r .power ≤ one) ⌝ }
-{
-    let t = (m - a) * ONE / m;
-    let p = powers::power_of(TABLE, roots, t, e);
-    Point {
-        share: t,
-        power: p,
-        held: c - c * p / ONE,
-    }
-}
-
 fn held_of(roots: &Roots, c: u64, m: u64, e: u64, a: u64) -> u64
     requires { ⌜ (c ≤ mostC) × (0 < m) × (m ≤ mostM) × (a ≤ m) ⌝ }
     ensures { λ r. ⌜ r ≡ held c m e a ⌝ }
 {
-    let p = point_at(roots, c, m, e, a);
-    p.held
+    held_at(roots, c, e, (m - a) * ONE / m)
 }
 
-// The interval from lo to hi is narrowed: lo holds at most w, hi holds more. Where it is tried is a guess for the first turns
-// and then its middle; any point between lo and hi will do.
-fn ordinate_of(roots: &Roots, c: u64, m: u64, e: u64, w: u64, start: u64) -> u64
+// What is held below an ordinate with the share t above it.
+fn held_at(roots: &Roots, c: u64, e: u64, t: u64) -> u64
+    requires { ⌜ (c ≤ mostC) × (t ≤ one) ⌝ }
+    ensures { λ r. ⌜ r ≡ heldAt c e t ⌝ }
+{
+    c - c * powers::power_of(TABLE, roots, t, e) / ONE
+}
+
+// The last ordinate with the least share or more above it.
+fn ordinate_of(roots: &Roots, c: u64, m: u64, e: u64, w: u64) -> u64
     requires { ⌜ (c ≤ mostC) × (0 < m) × (m ≤ mostM) × (leastE ≤ e) × (e ≤ mostE) × (w ≤ c) ⌝ }
     ensures { λ r. ⌜ r ≡ ordinate c m e w ⌝ }
 {
-    if w == c {
-        return m;
-    }
-    // a point that holds at most w has at least this power
-    let need = ((c - w) * ONE + c - 1) / c;
-    let mut lo = 0;
-    let mut hi = m;
-    let mut next = first_trial(m, e, need, start);
-    let mut turns = GUESSES;
-    let a = loop {
-        if hi - lo <= 1 {
-            break lo;
-        }
-        let at = between(lo, hi, next, turns);
-        let p = point_at(roots, c, m, e, at);
-        next = guess(m, e, need, p.share, p.power);
-        turns = one_less(turns);
-        if p.held <= w {
-            lo = at;
-        } else {
-            hi = at;
-        }
-    };
-    a
-}
-
-// Where the search begins: at the last ordinate of the start's share, or without a start at a guess.
-fn first_trial(m: u64, e: u64, need: u64, start: u64) -> u64
-    requires { ⌜ (0 < m) × (m ≤ mostM) × (leastE ≤ e) × (e ≤ mostE) × (need ≤ one + 1) ⌝ }
-{
-    if start == 0 {
-        return guess(m, e, need, ONE, ONE);
-    }
-    if m <= start {
-        return guess(m, e, need, ONE, ONE);
-    }
-    last_of(m, (m - start) * ONE / m)
-}
-
-// Newton's step on the power from the share t, as the last ordinate of the share that it comes to, or the one after t's own.
-fn guess(m: u64, e: u64, need: u64, t: u64, p: u64) -> u64
-    requires { ⌜ (m ≤ mostM) × (leastE ≤ e) × (e ≤ mostE) × (need ≤ one + 1) × (t ≤ one) × (p ≤ one) ⌝ }
-{
-    if p == 0 {
-        return 0;
-    }
-    if need <= p {
-        let d = (p - need) * 16 * t / (e * p);
-        if d == 0 {
-            return last_of(m, t) + 1;
-        }
-        if t < d {
-            return 0;
-        }
-        return last_of(m, t - d);
-    }
-    let d = (need - p) * 16 * t / (e * p) + 1;
-    if ONE - t < d {
-        return 0;
-    }
-    last_of(m, t + d)
-}
-
-// The last ordinate above which the share is at least t.
-fn last_of(m: u64, t: u64) -> u64
-    requires { ⌜ (m ≤ mostM) × (t ≤ one) ⌝ }
-    ensures { λ r. ⌜ r ≤ m ⌝ }
-{
+    let t = least_share(roots, c, e, w);
     m - (t * m + (ONE - 1)) / ONE
 }
 
-// The guess where it lies between lo and hi, while there are turns for it, and else their middle.
-fn between(lo: u64, hi: u64, guessed: u64, turns: u64) -> u64
-    requires { ⌜ (lo + 1 < hi) × (hi ≤ mostM) ⌝ }
-    ensures { λ r. ⌜ (lo < r) × (r < hi) ⌝ }
+// The interval from lo to hi is narrowed: with the share hi at most w is held, with lo more. The first trial is a guess. From it the trials
+// go 1 share on, 1 again, 2, 4 and so on, and where that leaves the interval to its middle. Any share between lo and hi would do.
+fn least_share(roots: &Roots, c: u64, e: u64, w: u64) -> u64
+    requires { ⌜ (c ≤ mostC) × (leastE ≤ e) × (e ≤ mostE) × (w ≤ c) ⌝ }
+    ensures { λ r. ⌜ (r ≡ leastShare c e w) × (r ≤ one) ⌝ }
 {
-    if turns == 0 {
-        return lo + (hi - lo) / 2;
-    }
-    if guessed <= lo {
-        return lo + (hi - lo) / 2;
-    }
-    if hi <= guessed {
-        return lo + (hi - lo) / 2;
-    }
-    guessed
-}
-
-fn one_less(x: u64) -> u64 {
-    if x == 0 {
+    if w == c {
         return 0;
     }
-    x - 1
+    // with a lesser power more than w is held
+    let power = ((c - w) * ONE + c - 1) / c;
+    let mut lo = 0;
+    let mut hi = ONE;
+    let mut at = guesses::share_of(power, e);
+    let mut step = 1;
+    let t = loop {
+        let far = (step + 1) / 2;
+        step = step * 2 % ONE;
+        if held_at(roots, c, e, at) <= w {
+            if at - lo <= 1 {
+                break at;
+            }
+            hi = at;
+            at = between(lo, hi, hi - least(far, hi));
+        } else {
+            if hi - at <= 1 {
+                break hi;
+            }
+            lo = at;
+            at = between(lo, hi, lo + far);
+        }
+    };
+    t
+}
+
+// The share asked for where it lies between lo and hi, and else their middle.
+fn between(lo: u64, hi: u64, asked: u64) -> u64
+    requires { ⌜ (lo + 1 < hi) × (hi ≤ one) ⌝ }
+    ensures { λ r. ⌜ (lo < r) × (r < hi) ⌝ }
+{
+    if asked <= lo {
+        return lo + (hi - lo) / 2;
+    }
+    if hi <= asked {
+        return lo + (hi - lo) / 2;
+    }
+    asked
 }

@@ -63,13 +63,13 @@ fn folded(roots: &Roots) -> u64 {
     s.h
 }
 
-// A Held and an Ordinate of the same draws, whose search starts at Held's point.
+// A Held and an Ordinate of the same draws.
 fn turn(roots: &Roots, s: Drawn) -> Drawn {
     let draws = random::eight(s.x);
     let v = random::arguments(Call::Held, draws);
     let held = capacity::held_with(roots, v[0], v[1], v[2], v[3]);
     let w = random::arguments(Call::Ordinate, draws);
-    let ordinate = capacity::ordinate_from(roots, w[0], w[1], w[2], w[3], v[3]);
+    let ordinate = capacity::ordinate_with(roots, w[0], w[1], w[2], w[3]);
     let row = [
         held.number,
         held.place,

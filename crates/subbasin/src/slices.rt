@@ -26,24 +26,11 @@ pub struct Sliced {
     pub kept: u64,
 }
 
-// The same between slices, with the ordinates that the two curves were left at: the next searches start there.
-struct Going {
-    given: Sliced,
-    soil_at: u64,
-    free_at: u64,
-}
-
 // A capacity curve: its mean and its greatest point capacity, and its exponent.
 struct Curve {
     c: u64,
     m: u64,
     e: u64,
-}
-
-// What a curve holds, and its ordinate there.
-struct Risen {
-    held: u64,
-    at: u64,
 }
 
 // Net rain pe on the layers w and the free water g, slice by slice.
@@ -64,15 +51,11 @@ pub fn take_slices(roots: &Roots, p: Parameters, w: Layers, g: u64, pe: u64) -> 
         m: free_water::most_point(p),
         e: p.xn,
     };
-    let mut going = Going {
-        given: begin(w, g),
-        soil_at: 0,
-        free_at: 0,
-    };
+    let mut given = begin(w, g);
     for i in 0..(pe + (SLICE - 1)) / SLICE {
-        going = take_slice(roots, p, soil, free, going, least(SLICE, pe - i * SLICE));
+        given = take_slice(roots, p, soil, free, given, least(SLICE, pe - i * SLICE));
     }
-    going.given
+    given
 }
 
 fn begin(w: Layers, g: u64) -> Sliced
@@ -88,46 +71,33 @@ fn begin(w: Layers, g: u64) -> Sliced
 }
 
 // One slice.
-fn take_slice(
-    roots: &Roots,
-    p: Parameters,
-    soil: Curve,
-    free: Curve,
-    going: Going,
-    pe: u64,
-) -> Going
-    requires { ⌜ SoilIn p × FreeIn p × (soil ≡ soilCurve p) × (free ≡ freeCurve p) × RoomFor p pe (going .given) × (0 < pe) ⌝ }
-    ensures { λ r. ⌜ r .given ≡ afterSlice p pe (going .given) ⌝ }
+fn take_slice(roots: &Roots, p: Parameters, soil: Curve, free: Curve, s: Sliced, pe: u64) -> Sliced
+    requires { ⌜ SoilIn p × FreeIn p × (soil ≡ soilCurve p) × (free ≡ freeCurve p) × RoomFor p pe s × (0 < pe) ⌝ }
+    ensures { λ r. ⌜ r ≡ afterSlice p pe s ⌝ }
 {
-    let s = going.given;
     let w = s.layers;
-    let tension = raise(roots, soil, w.wu + w.wl + w.wd, pe, going.soil_at);
-    let ro = soil::run_off(p, w, pe, tension.held);
+    let ro = soil::run_off(p, w, pe, raise(roots, soil, w.wu + w.wl + w.wd, pe));
     if ro.r == 0 {
-        return Going {
-            given: add(s, ro, s.kept),
-            soil_at: tension.at,
-            free_at: going.free_at,
-        };
+        return add(s, ro, s.kept);
     }
-    let level = free_water::level_of(p, s.kept, pe, ro.r);
-    let top = raise(roots, free, level, pe, going.free_at);
-    Going {
-        given: add(s, ro, free_water::keep_of(p, s.kept, pe, ro.r, top.held)),
-        soil_at: tension.at,
-        free_at: top.at,
-    }
+    let top = raise(roots, free, free_water::level_of(p, s.kept, pe, ro.r), pe);
+    add(s, ro, free_water::keep_of(p, s.kept, pe, ro.r, top))
 }
 
-// What the curve holds once pe has come on top of w. The search of its ordinate starts at a point, which may be any.
-fn raise(roots: &Roots, curve: Curve, w: u64, pe: u64, start: u64) -> Risen
+// What the curve holds once pe has come on top of w.
+fn raise(roots: &Roots, curve: Curve, w: u64, pe: u64) -> u64
     requires { ⌜ (curveIn (curve .c) (curve .m) (curve .e) ≡ true) × (w ≤ curve .c) × (pe ≤ 1000000) ⌝ }
-    ensures { λ r. ⌜ r .held ≡ rise (curve .c) (curve .m) (curve .e) w pe ⌝ }
+    ensures { λ r. ⌜ r ≡ rise (curve .c) (curve .m) (curve .e) w pe ⌝ }
 {
-    let from = capacity::ordinate_from(roots, curve.c, curve.m, curve.e, w, start);
-    let at = least(from.value + pe, curve.m);
-    let to = capacity::held_with(roots, curve.c, curve.m, curve.e, at);
-    Risen { held: to.value, at }
+    let from = capacity::ordinate_with(roots, curve.c, curve.m, curve.e, w);
+    let to = capacity::held_with(
+        roots,
+        curve.c,
+        curve.m,
+        curve.e,
+        least(from.value + pe, curve.m),
+    );
+    to.value
 }
 
 // A slice's runoff, and what is kept after it, added to what the slices before it gave.

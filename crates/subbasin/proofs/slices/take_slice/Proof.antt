@@ -51,37 +51,37 @@ module _ (p : Parameters) (pe : ℕ) (s : Sliced) (soil : SoilIn p) (room : Room
 
 raise-requires : tie.Need-raise-requires
 raise-requires c κs =
-    let at = c .before .before .before .before in
+    let at = c .before .before .before in
     soil-asks _ _ _ (at .pre .0) (at .pre .4 .inside) (omega (arith, at .pre .4 .runoff-most)) (at .pre .2)
 
 run-off-requires : tie.Need-run-off-requires
 run-off-requires c κs =
-    let at = c .before .before .before .before .before in
+    let at = c .before .before .before .before in
     (at .pre .0, at .pre .4 .inside, at .pre .5, omega (arith, at .pre .4 .runoff-most), risen-at _ (at .pre .2) refl (c .raise .ensures))
 
 add-requires : tie.Need-add-requires
 add-requires c κs =
-    let at = c .before .before .before .before .before .before .before .before in
+    let at = c .before .before .before .before .before .before .before in
     sums-fit _ _ _ (at .pre .0) (at .pre .4) (c .before .before .run-off .ensures) (sym (keep-none _ _ _ _ (c .if1 .taken)))
 
 returns : tie.Need-returns
 returns c =
-    let at = c .before .before .before .before .before .before .before .before .before in
+    let at = c .before .before .before .before .before .before .before .before in
     adds _ _ _ (at .pre .0) (at .pre .4) (c .before .before .before .run-off .ensures) (sym (keep-none _ _ _ _ (c .before .if1 .taken))) (c .add .ensures)
 
 level-of-requires : tie.Need-level-of-requires
 level-of-requires c κs =
-    let at = c .before .before .before .before .before .before .before .before in
+    let at = c .before .before .before .before .before .before .before in
     (at .pre .1, at .pre .4 .kept-most, omega (arith, c .if1 .left), omega (arith, at .pre .4 .runoff-most))
 
 raise-requires-2 : tie.Need-raise-requires-2
 raise-requires-2 c κs =
-    let at = c .before .before .before .before .before .before .before .before .before in
+    let at = c .before .before .before .before .before .before .before .before in
     free-asks _ _ _ _ (at .pre .1) (omega (arith, at .pre .4 .runoff-most)) (at .pre .3) (c .level-of .ensures)
 
 keep-of-requires : tie.Need-keep-of-requires
 keep-of-requires c κs =
-    let at = c .before .before .before .before .before .before .before .before .before .before in (
+    let at = c .before .before .before .before .before .before .before .before .before in (
       at .pre .1,
       at .pre .4 .kept-most,
       omega (arith, c .before .before .if1 .left),
@@ -92,12 +92,12 @@ keep-of-requires c κs =
 
 add-requires-2 : tie.Need-add-requires-2
 add-requires-2 c κs =
-    let at = c .before .before .before .before .before .before .before .before .before .before .before in
+    let at = c .before .before .before .before .before .before .before .before .before .before in
     sums-fit _ _ _ (at .pre .0) (at .pre .4) (c .before .before .before .before .before .run-off .ensures) (c .keep-of .ensures)
 
 returns-2 : tie.Need-returns-2
 returns-2 c =
-    let at = c .before .before .before .before .before .before .before .before .before .before .before .before in
+    let at = c .before .before .before .before .before .before .before .before .before .before .before in
     adds _ _ _ (at .pre .0) (at .pre .4) (c .before .before .before .before .before .before .run-off .ensures) (c .before .keep-of .ensures) (c .add2 .ensures)
 
 pub take-slice-spec : {M : Type 1} → statement M

@@ -58,10 +58,10 @@ unfolding slices
 past-slices pe h = h
 
 abbrev Inv-loop : tie.InvT-loop
-Inv-loop roots p g pe soil free going₀ i₀ end going i = Slicing p pe (going₀ .given) i (going .given)
+Inv-loop roots p g pe soil free given₀ i₀ end given i = Slicing p pe given₀ i given
 
 abbrev μ-loop : tie.MeasureT-loop
-μ-loop roots p g pe soil free going₀ i₀ end going i = end - i
+μ-loop roots p g pe soil free given₀ i₀ end given i = end - i
 
 returns : tie.Need-returns Inv-loop μ-loop
 returns c = c .begin .ensures ∙ dry _ _ _ (c .before .if1 .taken)
@@ -86,13 +86,13 @@ loop-again : tie.Need-loop-again Inv-loop μ-loop
 loop-again c =
     let at = c .before .before .before .before .before .before .before .before .before .before in
     carry-turn (c .before .before .before .loop .inv) (in-slices (at .args .pe) (c .before .before .loop-test .taken))
-    (c .take-slice .ensures ∙ ap (λ (x : ℕ). afterSlice (at .args .p) x (c .before .before .before .loop .going .given)) (slice-is (at .args .pe) (c .before .before .before .loop .i) (c .before .least .ensures)))
+    (c .take-slice .ensures ∙ ap (λ (x : ℕ). afterSlice (at .args .p) x (c .before .before .before .loop .given)) (slice-is (at .args .pe) (c .before .before .before .loop .i) (c .before .least .ensures)))
 
 returns-2 : tie.Need-returns-2 Inv-loop μ-loop
 returns-2 c =
-    let at = c .before .before .before .before .before .before .before .before .before in
-    ends (at .args .p) (at .args .w) (at .args .g) (at .args .pe) (c .before .before .before .begin2 .ensures) (c .before .before .loop .inv)
-    (past-slices (at .args .pe) (c .before .loop-test .left))
+    let at = c .before .before .before .before .before .before .before .before in
+    ends (at .args .p) (at .args .w) (at .args .g) (at .args .pe) (c .before .before .begin2 .ensures) (c .before .loop .inv)
+    (past-slices (at .args .pe) (c .loop-test .left))
 
 pub take-slices-spec : {M : Type 1} → statement M
 take-slices-spec =

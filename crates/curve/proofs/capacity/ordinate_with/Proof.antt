@@ -1,11 +1,11 @@
--- `curve::capacity::ordinate_from` meets its contract. Assumes nothing.
+-- `curve::capacity::ordinate_with` meets its contract. Assumes nothing.
 use mathlib.Core.Path.{sym, ap, _∙_}
 use native.Mathlib.Omega.{arith}
 use borrow.Author.Needs.{needs}
 use Rattle.curve.specs.Capacity.{value}
 use Rattle.curve.proofs.capacity.CallLaws.{outside-yes, outside-no, ordinate-accepts, ordinate-refuses}
-use Rattle.curve.proofs.capacity.ordinate_from.Statement.{statement}
-use Rattle.curve.proofs.capacity.ordinate_from.Tie as tie
+use Rattle.curve.proofs.capacity.ordinate_with.Statement.{statement}
+use Rattle.curve.proofs.capacity.ordinate_with.Tie as tie
 
 returns : tie.Need-returns
 returns c =
@@ -23,8 +23,8 @@ returns-3 c =
     let inside = outside-no _ _ _ (c .before .before .before .before .outside .ensures) (c .before .before .before .if1 .left) in
     c .accept .ensures ∙ ap (λ v. value v) (c .before .ordinate-of .ensures) ∙ sym (ordinate-accepts _ _ _ _ inside (omega arith))
 
-pub ordinate-from-spec : {M : Type 1} → statement M
-ordinate-from-spec =
+pub ordinate-with-spec : {M : Type 1} → statement M
+ordinate-with-spec =
     tie.close
     (tie.spec (λ c κs. search needs) (λ c κs. search needs) returns (λ c κs. search needs) returns-2 ordinate-of-requires
     (λ c κs. search needs) returns-3)
