@@ -1,8 +1,8 @@
 //! The benchmark: the built program against the model, on the same files.
 
 use crate::chance::Chance;
-use crate::curve;
-use crate::expect::root_speed::{chain, ROUND};
+use crate::curve::root_of;
+use crate::expect::curve_speed::{self, argument, chain, ROUND};
 use crate::expect::week_speed::SIZES;
 use crate::files::{line, Files, LineWords, MEASURED};
 use crate::record::{range, WORDS};
@@ -79,21 +79,26 @@ pub fn bench(account: &Path, out: &mut impl Write) -> io::Result<()> {
 }
 
 /// A root alone, in nanoseconds: by Newton's steps, by the printed table, lent and made anew for each, and the model's
-/// own. What the chain takes without a root is taken off.
-pub fn roots(root_speed: &Path, out: &mut impl Write) -> io::Result<()> {
-    let ways = ["idle", "newton", "lent", "made"];
-    let [idle, newton, lent, made] = best(ways.map(|way| {
-        let mut chain = Command::new(root_speed);
+/// own; then a search, of many curves, the model's, and at the worst point. What the chain takes without is taken off.
+pub fn curve(curve_speed: &Path, out: &mut impl Write) -> io::Result<()> {
+    let ways = ["idle", "newton", "lent", "made", "search", "worst"];
+    let [idle, newton, lent, made, search, worst] = best(ways.map(|way| {
+        let mut chain = Command::new(curve_speed);
         chain.arg(way);
         chain
     }))?;
-    let [bare, own] = [best_chain(|t| t), best_chain(curve::root_of)];
+    let bare = best_chain(argument);
+    let own = best_chain(|i, r| root_of(black_box(argument(i, r))));
+    let own_search = best_chain(curve_speed::search);
     let each = |all: f64| 1_000_000.0 * all / (100 * ROUND) as f64;
     for (name, time) in [
-        ("Newton's steps", newton - idle),
-        ("the printed table, lent", lent - idle),
-        ("the printed table, made anew", made - idle),
-        ("the model's", own - bare),
+        ("a root by Newton's steps", newton - idle),
+        ("a root by the printed table, lent", lent - idle),
+        ("a root by the printed table, made anew", made - idle),
+        ("a root of the model's", own - bare),
+        ("a search of many curves", search - idle),
+        ("a search of many curves, the model's", own_search - bare),
+        ("a search at the worst point", worst - idle),
     ] {
         writeln!(out, "{:6.1} ns   {name}", each(time))?;
     }
@@ -123,11 +128,11 @@ pub fn weeks(week_speed: &Path, out: &mut impl Write) -> io::Result<()> {
 }
 
 /// The best time of a chain of a hundred rounds, in milliseconds.
-fn best_chain(root: impl Fn(u64) -> u64) -> f64 {
+fn best_chain(turn: impl Fn(u64, u64) -> u64) -> f64 {
     let mut best = f64::INFINITY;
     for _ in 0..RUNS {
         let start = Instant::now();
-        black_box(chain(|t| root(black_box(t)), black_box(100 * ROUND)));
+        black_box(chain(|i, r| turn(i, black_box(r)), black_box(100 * ROUND)));
         best = best.min(1_000.0 * start.elapsed().as_secs_f64());
     }
     best

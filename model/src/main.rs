@@ -13,7 +13,7 @@ const USAGE: &str = "usage:
   model compare ACCOUNT FIRST LAST   holds a built program to the model, on cases FIRST to LAST
   model roots                        the printed table of roots, as a source file
   model bench ACCOUNT                times a built program and the model
-  model bench-roots ROOT_SPEED       times a root alone, by each way
+  model bench-curve CURVE_SPEED      times a root alone, by each way, and a search of an ordinate
   model bench-weeks WEEK_SPEED       times a step in a week and by itself
   model bench-files FOLDER YEARS SUBBASINS
   model program-cases FOLDER         makes the files of program_cases
@@ -49,7 +49,7 @@ fn obey(words: &[&str], out: &mut impl Write) -> io::Result<u8> {
         }
         ["roots"] => roots::print(out),
         ["bench", account] => bench::bench(account.as_ref(), out),
-        ["bench-roots", root_speed] => bench::roots(root_speed.as_ref(), out),
+        ["bench-curve", curve_speed] => bench::curve(curve_speed.as_ref(), out),
         ["bench-weeks", week_speed] => bench::weeks(week_speed.as_ref(), out),
         ["bench-files", folder, years, sub_basins] => {
             bench::files(number(years)?, number(sub_basins)?).write(folder.as_ref())

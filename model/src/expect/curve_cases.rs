@@ -84,6 +84,17 @@ pub fn print(out: &mut impl Write) -> io::Result<()> {
     for call in limits().into_iter().chain(far()) {
         call.print(out)?;
     }
+    for e in 16..=48 {
+        writeln!(out, "small {e} {}", small(e))?;
+    }
+    for e in 16..=48 {
+        curve_line(65_536, 2_000_000, e, out)?;
+    }
+    for [c, m] in CURVES {
+        for e in [16, 31, 48] {
+            curve_line(c, m, e, out)?;
+        }
+    }
     for drawn in [drawn_root, drawn_power, drawn_held, drawn_ordinate, drawn_store] {
         series(drawn, out)?;
     }
@@ -182,6 +193,34 @@ fn far() -> Vec<Call> {
 fn with(mut arguments: [u64; 4], i: usize) -> [u64; 4] {
     arguments[i] = u64::MAX;
     arguments
+}
+
+/// The greatest c with the least m, the least c with the greatest m, and c and m beside a share's whole.
+const CURVES: [[u64; 2]; 5] =
+    [[500_000, 1], [1, 2_000_000], [65_535, 65_537], [65_537, 65_535], [500_000, 65_536]];
+
+/// The checksum of every ordinate where c and m are at most 12.
+fn small(e: u64) -> u64 {
+    let mut h = Checksum::default();
+    for c in 1..=12 {
+        for m in 1..=12 {
+            fold_curve(&mut h, c, m, e);
+        }
+    }
+    h.0
+}
+
+fn curve_line(c: u64, m: u64, e: u64, out: &mut impl Write) -> io::Result<()> {
+    let mut h = Checksum::default();
+    fold_curve(&mut h, c, m, e);
+    writeln!(out, "curve {c} {m} {e} {}", h.0)
+}
+
+/// The ordinate of every w, and of one beyond.
+fn fold_curve(h: &mut Checksum, c: u64, m: u64, e: u64) {
+    for w in 0..=c + 1 {
+        h.fold(&Ordinate([c, m, e, w]).answer());
+    }
 }
 
 /// 100,000 random calls: every 2,500th in full, and at the end the checksum of all.

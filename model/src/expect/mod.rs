@@ -2,6 +2,7 @@
 
 mod basin_series;
 mod curve_cases;
+pub mod curve_speed;
 mod draft;
 mod draw;
 mod embedding;
@@ -10,7 +11,6 @@ mod forcing_cases;
 mod places;
 mod plans;
 pub mod program_cases;
-pub mod root_speed;
 mod subbasin_series;
 mod weather;
 mod week_cases;
@@ -21,7 +21,7 @@ use std::io::{self, Write};
 
 #[rustfmt::skip]
 const NAMES: [&str; 11] = [
-    "curve_cases", "root_speed", "subbasin_series", "forcing_cases", "file_cases", "basin_series", "week_cases",
+    "curve_cases", "curve_speed", "subbasin_series", "forcing_cases", "file_cases", "basin_series", "week_cases",
     "week_speed", "program_cases", "embedding", "account",
 ];
 
@@ -32,7 +32,7 @@ pub fn names(out: &mut impl Write) -> io::Result<()> {
 pub fn print(name: &str, out: &mut impl Write) -> io::Result<()> {
     match name {
         "curve_cases" => curve_cases::print(out),
-        "root_speed" => root_speed::print(out),
+        "curve_speed" => curve_speed::print(out),
         "subbasin_series" => subbasin_series::print(out),
         "forcing_cases" => forcing_cases::print(out),
         "file_cases" => file_cases::print(out),
