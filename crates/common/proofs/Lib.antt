@@ -3,5 +3,5 @@ pub mod Limits
 pub mod Loops
 pub mod Tables
 pub mod Greatest
-pub mod Least
+pub mod Smallest
 pub mod Cases

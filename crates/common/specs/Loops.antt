@@ -1,4 +1,4 @@
--- What is said of the numbers 0, 1, .. below a count, one for each kind of loop; and "greatest" and "least".
+-- What is said of the numbers 0, 1, .. below a count, one for each kind of loop; and "greatest" and "smallest".
 use Prim.Native.Nat.{ℕ, zero, suc, _+_}
 use mathlib.Core.Bool.{Bool, true, cond, _&&_}
 use mathlib.Core.List.{List}
@@ -41,7 +41,7 @@ unfoldable pub greatest : (ℕ → Bool) → ℕ → ℕ
 greatest p zero = zero
 greatest p (suc n) = cond (p (suc n)) (suc n) (greatest p n)
 
--- the least whole number up to the bound at which p holds, and the bound where there is none
-unfoldable pub least : (ℕ → Bool) → ℕ → ℕ
-least p zero = zero
-least p (suc n) = cond (p zero) zero (suc (least (λ k. p (suc k)) n))
+-- the smallest whole number up to the bound at which p holds, and the bound where there is none
+unfoldable pub smallest : (ℕ → Bool) → ℕ → ℕ
+smallest p zero = zero
+smallest p (suc n) = cond (p zero) zero (suc (smallest (λ k. p (suc k)) n))

@@ -5,7 +5,7 @@ use Prim.Native.Nat.{ℕ, _+_, _-_, _*_, _/_, _%_, min}
 use lib.Dec.{leb, eqb}
 use Rattle.common.specs.Shares.{one}
 use Rattle.common.specs.Limits.{within}
-use Rattle.common.specs.Loops.{run, table, greatest, least}
+use Rattle.common.specs.Loops.{run, table, greatest, smallest}
 use Rattle.curve.specs.declared.capacity.Answer.{Answer}
 
 -- "greatest whole r with r × r ≤ t × 65,536"; such an r is at most t × 65,536 itself
@@ -55,7 +55,7 @@ heldAt c e t = c - c * power t e / one
 
 -- "t the least for which" that "is at most w"
 unfoldable pub leastShare : ℕ → ℕ → ℕ → ℕ
-leastShare c e w = least (λ t. leb (heldAt c e t) w) one
+leastShare c e w = smallest (λ t. leb (heldAt c e t) w) one
 
 -- "m less t × m / 65,536, this last division rounded up"
 unfoldable pub lastAbove : ℕ → ℕ → ℕ

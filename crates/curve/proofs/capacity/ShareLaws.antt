@@ -6,31 +6,31 @@ use native.Mathlib.Omega.{arith}
 use lib.Dec.{leb}
 use borrow.Author.Tests.{le-leb, lt-leb, leb-true, leb-false}
 use Rattle.common.specs.Shares.{one}
-use Rattle.common.proofs.Least.{least-le, least-holds, least-below, least-is}
+use Rattle.common.proofs.Smallest.{smallest-le, smallest-holds, smallest-below, smallest-is}
 use Rattle.curve.specs.Capacity.{shareAbove, heldAt, ordinate, leastShare, lastAbove}
 use Rattle.curve.proofs.capacity.HeldLaws.{held-at-mono, held-at-one, held-is, ordinate-is}
 
 module _ (c e w : ℕ) where
   least-share-le : leastShare c e w ≤ one
   unfolding leastShare
-  least-share-le = least-le (λ t. leb (heldAt c e t) w) one
+  least-share-le = smallest-le (λ t. leb (heldAt c e t) w) one
 
   -- from the least share on at most w is held, and below it more
   at-least : {t : ℕ} → leastShare c e w ≤ t → heldAt c e t ≤ w
   unfolding leastShare
   at-least {t} h =
       let top = le-leb (heldAt c e one) w (omega (arith, held-at-one c e)) in
-      omega (arith, leb-true (heldAt c e (leastShare c e w)) w (least-holds (λ t. leb (heldAt c e t) w) one top), held-at-mono c e h)
+      omega (arith, leb-true (heldAt c e (leastShare c e w)) w (smallest-holds (λ t. leb (heldAt c e t) w) one top), held-at-mono c e h)
 
   below : {t : ℕ} → t < leastShare c e w → w < heldAt c e t
   unfolding leastShare
-  below {t} h = leb-false _ _ (least-below (λ t. leb (heldAt c e t) w) one t h)
+  below {t} h = leb-false _ _ (smallest-below (λ t. leb (heldAt c e t) w) one t h)
 
   -- a share with which at most w is held, when with the one below it more is, is the least
   pub least-share-is : (t : ℕ) → t ≤ one → heldAt c e t ≤ w → (0 < t → w < heldAt c e (t - 1)) → leastShare c e w ≡ t
   unfolding leastShare
   least-share-is t h l u =
-      least-is (λ t. leb (heldAt c e t) w) one t h (le-leb _ _ l)
+      smallest-is (λ t. leb (heldAt c e t) w) one t h (le-leb _ _ l)
       (λ j i. lt-leb (heldAt c e j) w (omega (arith, u (omega arith), held-at-mono c e {s = j} {t = t - 1} (omega arith))))
 
   -- "with t the least for which c − c × Power(t, e) / 65,536 is at most w, the ordinate is m less t × m / 65,536, this last division
