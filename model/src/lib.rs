@@ -10,6 +10,7 @@ pub mod file;
 pub mod files;
 pub mod forcing;
 pub mod program;
+pub mod rains;
 pub mod random;
 pub mod record;
 pub mod roots;
