@@ -1,10 +1,10 @@
 // Every number of a basin in turn: one below its least, at its least, at its most, one above, and at the greatest u64.
 use crate::series;
 use crate::series::Ran;
-use crate::weather;
 use basin::state::Basin;
 use basin::step;
 use basin_testing::places;
+use basin_testing::weather;
 use testing::lines;
 use testing::spots::Part;
 

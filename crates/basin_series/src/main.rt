@@ -4,7 +4,6 @@ mod faults;
 mod limits;
 mod plan;
 mod series;
-mod weather;
 
 use basin::state::Basin;
 use basin::step;

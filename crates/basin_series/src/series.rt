@@ -1,11 +1,11 @@
 // A series of steps, each on the basin that the one before handed back, folded into a checksum.
 use crate::faults;
-use crate::weather;
 use basin::state::Basin;
 use basin::step;
 use basin::step::Outcome;
 use basin_testing::checksum::fold_basin;
 use basin_testing::files;
+use basin_testing::weather;
 use forcing::list::Line;
 use testing::checksum;
 use testing::drafts::Plan;

@@ -1,6 +1,7 @@
-// A line, drawn, and bad ones.
+// A line and the lines of a step, drawn, and bad ones.
 use forcing::list::Line;
 use forcing::list::Reading;
+use testing::chance::next;
 use testing::climate;
 use testing::climate::Climate;
 
@@ -21,6 +22,34 @@ pub fn line(i: u64, x: u64, y: u64) -> Line {
 // The number nearest to a depth in µm, over 1,000.
 fn millimetres(depth: u64) -> f32 {
     std::num::nearest_u32_to_f32((depth % 4294967296) as u32) / 1000.0
+}
+
+// 32 lines and the generator.
+pub struct Sky {
+    pub lines: [Line; 32],
+    pub x: u64,
+}
+
+// The lines of step i.
+pub fn drawn(i: u64, x: u64) -> Sky {
+    let mut s = Sky {
+        lines: [line(i, 0, 0); 32],
+        x,
+    };
+    for k in 0..32 {
+        s = turn(s, i, k);
+    }
+    s
+}
+
+fn turn(s: Sky, i: u64, k: usize) -> Sky {
+    let mut lines = s.lines;
+    let x1 = next(s.x);
+    let x2 = next(x1);
+    if k < 32 {
+        lines[k] = line(i, x1, x2);
+    }
+    Sky { lines, x: x2 }
 }
 
 // The line with one of nine faults.

@@ -4,7 +4,7 @@ use super::draft::{numbers, RECORD};
 use super::draw::{Checksum, Draw};
 use super::places::{brimming, damaged, edges, reach_place, with};
 use super::plans::{loaded, ordinary, CHOICES, SHAPES};
-use super::weather::{bad, drawn_line};
+use super::weather::{bad, drawn_lines};
 use crate::basin::{Advanced, Basin};
 use crate::forcing::{Line, Reading, MOST_LINES};
 use crate::record::CASE_A;
@@ -96,10 +96,6 @@ fn series(
         *basin = given.basin;
     }
     Ok(h.0)
-}
-
-fn drawn_lines(i: usize, draw: &mut Draw) -> [Line; MOST_LINES] {
-    std::array::from_fn(|_| drawn_line(i, draw))
 }
 
 /// A step with a wrong count, bad lines or a number of the basin outside its range.

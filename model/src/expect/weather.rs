@@ -1,7 +1,7 @@
 //! Drawn lines, and bad ones.
 
 use super::draw::Draw;
-use crate::forcing::{Line, Reading};
+use crate::forcing::{Line, Reading, MOST_LINES};
 
 /// A line of step i: ordinary, dry, wet, drizzle and any amounts, 32 steps of each in turn.
 pub fn drawn_line(i: usize, draw: &mut Draw) -> Line {
@@ -17,6 +17,11 @@ pub fn drawn_line(i: usize, draw: &mut Draw) -> Line {
     let rain = millimetres(rain);
     let rain = if y % 8 == 0 { Reading::Estimated(rain) } else { Reading::Measured(rain) };
     Line { rain, pan: millimetres(pan) }
+}
+
+/// The lines of step i.
+pub fn drawn_lines(i: usize, draw: &mut Draw) -> [Line; MOST_LINES] {
+    std::array::from_fn(|_| drawn_line(i, draw))
 }
 
 /// Of whole µm.

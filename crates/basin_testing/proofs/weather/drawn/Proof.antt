@@ -1,10 +1,10 @@
--- `basin_series::weather::drawn` is safe and ends: k rises to 32.
+-- `basin_testing::weather::drawn` is safe and ends: k rises to 32.
 -- Assumes nothing.
 use Prim.Native.Nat.{_≤_, _-_}
 use borrow.Author.Needs.{needs}
 use native.Mathlib.Omega.{arith}
-use Rattle.basin_series.proofs.weather.drawn.Statement.{statement}
-use Rattle.basin_series.proofs.weather.drawn.Tie as tie
+use Rattle.basin_testing.proofs.weather.drawn.Statement.{statement}
+use Rattle.basin_testing.proofs.weather.drawn.Tie as tie
 
 pub drawn-spec : {M : Type 1} → statement M
 drawn-spec =
