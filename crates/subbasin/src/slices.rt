@@ -15,7 +15,7 @@ use curve::capacity;
 use curve::capacity::Roots;
 
 // The depth of a slice; the last is the rest.
-const SLICE: u64 = 5000;
+pub const SLICE: u64 = 5000;
 
 // What the slices of a step have given: runoff and surface flow as sums, the layers, and the free water that is kept.
 pub struct Sliced {
@@ -27,7 +27,7 @@ pub struct Sliced {
 }
 
 // A capacity curve: its mean and its greatest point capacity, and its exponent.
-struct Curve {
+pub struct Curve {
     c: u64,
     m: u64,
     e: u64,
@@ -41,21 +41,37 @@ pub fn take_slices(roots: &Roots, p: Parameters, w: Layers, g: u64, pe: u64) -> 
     if pe == 0 {
         return begin(w, g);
     }
-    let soil = Curve {
-        c: p.um + p.lm + p.dm,
-        m: soil::most_point(p),
-        e: p.bn,
-    };
-    let free = Curve {
-        c: p.sm,
-        m: free_water::most_point(p),
-        e: p.xn,
-    };
+    let soil = soil_curve(p);
+    let free = free_curve(p);
     let mut given = begin(w, g);
     for i in 0..(pe + (SLICE - 1)) / SLICE {
         given = take_slice(roots, p, soil, free, given, least(SLICE, pe - i * SLICE));
     }
     given
+}
+
+// The curve of tension water.
+pub fn soil_curve(p: Parameters) -> Curve
+    requires { ⌜ SoilIn p ⌝ }
+    ensures { λ r. ⌜ r ≡ soilCurve p ⌝ }
+{
+    Curve {
+        c: p.um + p.lm + p.dm,
+        m: soil::most_point(p),
+        e: p.bn,
+    }
+}
+
+// The curve of free water.
+fn free_curve(p: Parameters) -> Curve
+    requires { ⌜ FreeIn p ⌝ }
+    ensures { λ r. ⌜ r ≡ freeCurve p ⌝ }
+{
+    Curve {
+        c: p.sm,
+        m: free_water::most_point(p),
+        e: p.xn,
+    }
 }
 
 fn begin(w: Layers, g: u64) -> Sliced
@@ -85,7 +101,7 @@ fn take_slice(roots: &Roots, p: Parameters, soil: Curve, free: Curve, s: Sliced,
 }
 
 // What the curve holds once pe has come on top of w.
-fn raise(roots: &Roots, curve: Curve, w: u64, pe: u64) -> u64
+pub fn raise(roots: &Roots, curve: Curve, w: u64, pe: u64) -> u64
     requires { ⌜ (curveIn (curve .c) (curve .m) (curve .e) ≡ true) × (w ≤ curve .c) × (pe ≤ 1000000) ⌝ }
     ensures { λ r. ⌜ r ≡ rise (curve .c) (curve .m) (curve .e) w pe ⌝ }
 {

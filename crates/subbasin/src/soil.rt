@@ -1,9 +1,9 @@
 // Evapotranspiration, runoff and the three layers of tension water: document 01, "One sub-basin, one step". All in µm.
 ghost use mathlib.Core.Path.{_≡_};
-ghost use Prim.Native.Nat.{_+_, _≤_, _<_};
+ghost use Prim.Native.Nat.{_+_, _-_, _≤_, _<_};
 ghost use Rattle.curve.specs.Capacity.{rise};
 ghost use Rattle.subbasin.specs.Workers.{SoilIn, LayersIn};
-ghost use Rattle.subbasin.specs.Soil.{fallen, deeper, evaporated, tension, wm, mm, refilled, runoff};
+ghost use Rattle.subbasin.specs.Soil.{fallen, deeper, evaporated, tension, wm, mm, rb, gain, refilled, runoff};
 use crate::record::Parameters;
 use common::amounts::least;
 use common::shares::ONE;
@@ -89,13 +89,20 @@ pub fn run_off(p: Parameters, w: Layers, pe: u64, top: u64) -> Runoff
     ensures { λ r. ⌜ r ≡ runoff p w pe ⌝ }
 {
     let rb = p.im * pe / ONE;
-    let x = pe - rb;
-    let gained = least(x, top - (w.wu + w.wl + w.wd));
+    let gained = gain_of(p, w.wu + w.wl + w.wd, pe, top);
     Runoff {
         rb,
-        r: x - gained,
+        r: pe - rb - gained,
         layers: fill(p, w, gained),
     }
+}
+
+// What soil with tension water w gains of pe.
+pub fn gain_of(p: Parameters, w: u64, pe: u64, top: u64) -> u64
+    requires { ⌜ SoilIn p × (w ≤ wm p) × (0 < pe) × (pe ≤ 1000000) × (top ≡ rise (wm p) (mm p) (p .bn) w pe) ⌝ }
+    ensures { λ r. ⌜ r ≡ gain p w pe (pe - rb p pe) ⌝ }
+{
+    least(pe - p.im * pe / ONE, top - w)
 }
 
 // MM, the greatest point capacity of tension water.

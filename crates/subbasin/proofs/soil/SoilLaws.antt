@@ -124,9 +124,12 @@ pub record Runs (p : Parameters) (w : Layers) (pe : ℕ) (ro : Runoff) : Type 0 
   pub most : ro .rb + ro .r ≤ pe
   pub inside : LayersIn p (ro .layers)
 
-pub rb-most : (p : Parameters) (pe : ℕ) → SoilIn p → rb p pe ≤ pe
+pub impervious-le : (p : Parameters) (pe : ℕ) → SoilIn p → p .im * pe / one ≤ pe
+impervious-le p pe soil = share-le (p .im) pe (omega arith)
+
+rb-most : (p : Parameters) (pe : ℕ) → SoilIn p → rb p pe ≤ pe
 unfolding rb
-rb-most p pe soil = share-le (p .im) pe (omega arith)
+rb-most p pe soil = impervious-le p pe soil
 
 pub runs : (p : Parameters) (w : Layers) (pe : ℕ) → SoilIn p → LayersIn p w → Runs p w pe (runoff p w pe)
 unfolding runoff

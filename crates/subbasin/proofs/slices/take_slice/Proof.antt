@@ -1,38 +1,20 @@
 -- `subbasin::slices::take_slice` meets its contract: each stage hands the next what it asks. Assumes nothing.
-use mathlib.Core.Path.{_≡_, refl, sym, ap, ap₂, _∙_}
-use mathlib.Core.Bool.{true}
+use mathlib.Core.Path.{_≡_, refl, sym, ap, _∙_}
 use Prim.Native.Nat.{ℕ, _+_, _≤_}
 use native.Mathlib.Omega.{arith}
-use Rattle.curve.specs.Capacity.{curveIn, rise}
-use Rattle.curve.proofs.capacity.CallLaws.{curve-in}
 use Rattle.subbasin.specs.declared.record.Parameters.{Parameters}
-use Rattle.subbasin.specs.declared.soil.Layers.{Layers}
 use Rattle.subbasin.specs.declared.soil.Runoff.{Runoff}
 use Rattle.subbasin.specs.declared.slices.Sliced.{Sliced}
-use Rattle.subbasin.specs.declared.slices.Curve.{Curve}
-use Rattle.subbasin.specs.Workers.{SoilIn, LayersIn, FreeIn, RoomFor, soilCurve, freeCurve}
-use Rattle.subbasin.specs.Soil.{tension, wm, mm, runoff}
-use Rattle.subbasin.specs.FreeWater.{ms, level, keep}
+use Rattle.subbasin.specs.Workers.{SoilIn, RoomFor}
+use Rattle.subbasin.specs.Soil.{runoff}
+use Rattle.subbasin.specs.FreeWater.{keep}
 use Rattle.subbasin.specs.Slices.{added, afterSlice}
-use Rattle.subbasin.proofs.soil.SoilLaws.{tension-curve, runs}
-use Rattle.subbasin.proofs.free_water.FreeWaterLaws.{free-curve, level-le, keep-none, Keeps, keeps}
+use Rattle.subbasin.proofs.soil.SoilLaws.{runs}
+use Rattle.subbasin.proofs.free_water.FreeWaterLaws.{keep-none, Keeps, keeps}
+use Rattle.subbasin.proofs.slices.CurveLaws.{soil-asks, free-asks, risen-at}
 use borrow.Author.Needs.{needs}
 use Rattle.subbasin.proofs.slices.take_slice.Statement.{statement}
 use Rattle.subbasin.proofs.slices.take_slice.Tie as tie
-
--- what `raise` asks of a curve k and of the water on it
-abbrev Asks : Curve → ℕ → ℕ → Type 0
-Asks k w pe = (curveIn (k .c) (k .m) (k .e) ≡ true) × (w ≤ k .c) × (pe ≤ 1000000)
-
-soil-asks : (p : Parameters) (w : Layers) (pe : ℕ) {k : Curve} → SoilIn p → LayersIn p w → pe ≤ 1000000 → k ≡ soilCurve p → Asks k (tension w) pe
-soil-asks p w pe soil fits most e = rw e (curve-in (wm p) (mm p) (p .bn) (tension-curve p soil), omega (arith, fits), most)
-
-free-asks : (p : Parameters) (g pe r : ℕ) {k : Curve} {s : ℕ} → FreeIn p → pe ≤ 1000000 → k ≡ freeCurve p → s ≡ level p g pe r → Asks k s pe
-free-asks p g pe r free most e l = rw (e, l) (curve-in (p .sm) (ms p) (p .xn) (free-curve p free), level-le p g pe r, most)
-
--- the rise, where the curve and the water on it are known by equations
-risen-at : (pe : ℕ) {k k′ : Curve} {w w′ top : ℕ} → k ≡ k′ → w ≡ w′ → top ≡ rise (k .c) (k .m) (k .e) w pe → top ≡ rise (k′ .c) (k′ .m) (k′ .e) w′ pe
-risen-at pe d e h = h ∙ ap₂ (λ (x : Curve) (y : ℕ). rise (x .c) (x .m) (x .e) y pe) d e
 
 module _ (p : Parameters) (pe : ℕ) (s : Sliced) (soil : SoilIn p) (room : RoomFor p pe s) {ro : Runoff} (ro-is : ro ≡ runoff p (s .layers) pe) where
   runoff-le : ro .rb + ro .r ≤ pe
@@ -52,7 +34,7 @@ module _ (p : Parameters) (pe : ℕ) (s : Sliced) (soil : SoilIn p) (room : Room
 raise-requires : tie.Need-raise-requires
 raise-requires c κs =
     let at = c .before .before .before in
-    soil-asks _ _ _ (at .pre .0) (at .pre .4 .inside) (omega (arith, at .pre .4 .runoff-most)) (at .pre .2)
+    soil-asks _ _ _ (at .pre .0) (omega (arith, at .pre .4 .inside)) (omega (arith, at .pre .4 .runoff-most)) (at .pre .2)
 
 run-off-requires : tie.Need-run-off-requires
 run-off-requires c κs =

@@ -6,8 +6,7 @@ use Rattle.common.proofs.Loops.{Carrying, carry-begin, carry-turn, carry-end}
 use Rattle.subbasin.specs.declared.record.Parameters.{Parameters}
 use Rattle.subbasin.specs.declared.soil.Layers.{Layers}
 use Rattle.subbasin.specs.declared.slices.Sliced.{Sliced}
-use Rattle.subbasin.specs.declared.slices.Curve.{Curve}
-use Rattle.subbasin.specs.Workers.{SoilIn, LayersIn, FreeIn, RoomFor, soilCurve, freeCurve}
+use Rattle.subbasin.specs.Workers.{SoilIn, LayersIn, FreeIn, RoomFor}
 use Rattle.subbasin.specs.Slices.{mostSlice, slices, slice, noSlice, afterSlice, sliced}
 use Rattle.subbasin.proofs.slices.SlicesLaws.{Falls, falls, below, below-more, slice-some, sliced-none}
 use borrow.Author.Needs.{needs}
@@ -16,10 +15,6 @@ use Rattle.subbasin.proofs.slices.take_slices.Tie as tie
 
 abbrev Slicing : Parameters → ℕ → Sliced → ℕ → Sliced → Type 0
 Slicing p pe s₀ i s = Carrying (λ k t. afterSlice p (slice pe k) t) s₀ (slices pe) i s
-
--- a curve is made with its greatest point capacity
-curve-is : (k : Curve) {m : ℕ} → m ≡ k .m → record { c = k .c; m = m; e = k .e } ≡ k
-curve-is k e = ap (λ (m : ℕ). record { c = k .c; m = m; e = k .e }) e
 
 slice-is : (pe i : ℕ) {x : ℕ} → x ≡ min mostSlice (pe - i * mostSlice) → x ≡ slice pe i
 unfolding slice
@@ -71,12 +66,12 @@ loop-holds c = carry-begin
 
 take-slice-requires : tie.Need-take-slice-requires Inv-loop μ-loop
 take-slice-requires c κs =
-    let at = c .before .before .before .before .before .before .before .before .before in
+    let at = c .before .before .before .before .before .before .before in
     let here = slice-is (at .args .pe) (c .before .before .loop .i) (c .least .ensures) in (
       at .pre .0,
       at .pre .1,
-      curve-is (soilCurve (at .args .p)) (c .before .before .before .before .before .most-point .ensures),
-      curve-is (freeCurve (at .args .p)) (c .before .before .before .before .most-point2 .ensures),
+      c .before .before .before .before .before .soil-curve .ensures,
+      c .before .before .before .before .free-curve .ensures,
       room (at .args .p) (at .args .w) (at .args .g) (at .args .pe) (at .pre .0) (at .pre .1) (at .pre .2) (at .pre .3) (at .pre .4)
           (c .before .before .before .begin2 .ensures) (c .before .before .loop .inv) here,
       omega (arith, here, slice-some (at .args .pe) (c .before .before .loop .i) (in-slices (at .args .pe) (c .before .loop-test .taken))),
@@ -84,19 +79,19 @@ take-slice-requires c κs =
 
 loop-again : tie.Need-loop-again Inv-loop μ-loop
 loop-again c =
-    let at = c .before .before .before .before .before .before .before .before .before .before in
+    let at = c .before .before .before .before .before .before .before .before in
     carry-turn (c .before .before .before .loop .inv) (in-slices (at .args .pe) (c .before .before .loop-test .taken))
     (c .take-slice .ensures ∙ ap (λ (x : ℕ). afterSlice (at .args .p) x (c .before .before .before .loop .given)) (slice-is (at .args .pe) (c .before .before .before .loop .i) (c .before .least .ensures)))
 
 returns-2 : tie.Need-returns-2 Inv-loop μ-loop
 returns-2 c =
-    let at = c .before .before .before .before .before .before .before .before in
+    let at = c .before .before .before .before .before .before in
     ends (at .args .p) (at .args .w) (at .args .g) (at .args .pe) (c .before .before .begin2 .ensures) (c .before .loop .inv)
     (past-slices (at .args .pe) (c .loop-test .left))
 
 pub take-slices-spec : {M : Type 1} → statement M
 take-slices-spec =
     tie.close
-    (tie.spec Inv-loop μ-loop (λ c κs. search needs) returns (λ c. search needs) (λ c. search needs) (λ c κs. search needs)
+    (tie.spec Inv-loop μ-loop (λ c κs. search needs) returns (λ c κs. search needs)
     (λ c κs. search needs) (λ c κs. search needs) (λ c. search needs) (λ c. search needs) loop-holds (λ c. search needs) (λ c. search needs) (λ c κs. search needs) take-slice-requires
     (λ c. search needs) (λ c. search needs) loop-again returns-2)
