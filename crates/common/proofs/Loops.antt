@@ -15,6 +15,12 @@ use Rattle.common.proofs.amounts.AmountLaws.{getD-repeat}
 
 -- ---- carried state
 
+-- two that turn alike
+pub run-same : {S : Type 0} (f g : ℕ → S → S) (n : ℕ) (s : S) → ((k : ℕ) → k < n → (t : S) → f k t ≡ g k t) → run f n s ≡ run g n s
+unfolding run
+run-same f g zero s h = refl
+run-same f g (suc n) s h = ap (f n) (run-same f g n s (λ k l. h k (omega arith))) ∙ h n (omega arith) (run g n s)
+
 pub record Carrying {S : Type 0} (turn : ℕ → S → S) (s₀ : S) (n i : ℕ) (s : S) : Type 0 where
   pub place : i ≤ n
   pub so-far : s ≡ run turn i s₀

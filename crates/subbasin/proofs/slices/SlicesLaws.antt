@@ -1,9 +1,11 @@
--- Net rain in slices: what the slices give is their sum, the stores stay inside after each; and one slice is document 01's own rule.
--- Assumes nothing.
-use mathlib.Core.Path.{_≡_, refl}
-use Prim.Native.Nat.{ℕ, zero, suc, _+_, _-_, _*_, _≤_, _<_, min}
+-- Net rain in slices: what the slices give is their sum, the stores stay inside after each; one slice is document 01's own rule; and
+-- they are the whole slices, then the rest. Assumes nothing.
+use mathlib.Core.Path.{_≡_, refl, ap, _∙_}
+use Prim.Native.Nat.{ℕ, zero, suc, _+_, _-_, _*_, _/_, _%_, _≤_, _<_, min}
+use native.Mathlib.Decide.{ℕ-discrete}
 use native.Mathlib.Omega.{arith}
 use Rattle.common.specs.Loops.{run}
+use Rattle.common.proofs.Loops.{run-same}
 use Rattle.subbasin.specs.declared.record.Parameters.{Parameters}
 use Rattle.subbasin.specs.declared.soil.Layers.{Layers}
 use Rattle.subbasin.specs.declared.soil.Runoff.{Runoff}
@@ -106,3 +108,45 @@ sliced-once p w g (suc n) h = one-slice (suc n) (omega arith) h
   where
     one-slice : (pe : ℕ) → 0 < pe → pe ≤ mostSlice → run (λ k s. afterSlice p (slice pe k) s) (slices pe) (noSlice w g) ≡ unsliced p w g pe
     one-slice pe z l = rw (slices-one pe z l, slice-first pe l) (first-slice p w g pe)
+
+-- ---- the whole slices, then the rest
+
+-- so many whole slices
+unfoldable pub wholeSlices : Parameters → Layers → ℕ → ℕ → Sliced
+wholeSlices p w g many = run (λ i s. afterSlice p mostSlice s) many (noSlice w g)
+
+-- a slice of nothing leaves all as it was
+after-none : (p : Parameters) (s : Sliced) → s ≡ afterSlice p 0 s
+unfolding afterSlice runoff keep
+after-none p s = same-sums (omega arith) (omega arith) (omega arith) refl
+
+module _ (p : Parameters) (w : Layers) (g pe : ℕ) where
+  -- the slices before the rest are whole
+  whole-first : run (λ k s. afterSlice p (slice pe k) s) (pe / mostSlice) (noSlice w g) ≡ wholeSlices p w g (pe / mostSlice)
+  unfolding wholeSlices slice
+  whole-first =
+      run-same (λ k s. afterSlice p (slice pe k) s) (λ k s. afterSlice p mostSlice s) (pe / mostSlice) (noSlice w g)
+      (λ k l t. ap (λ (x : ℕ). afterSlice p x t) (omega arith))
+
+  pub sliced-whole-rest : sliced p w g pe ≡ afterSlice p (pe % mostSlice) (wholeSlices p w g (pe / mostSlice))
+  unfolding sliced slices slice run
+  sliced-whole-rest = go (ℕ-discrete (pe % mostSlice) 0)
+    where
+      turn : ℕ → Sliced → Sliced
+      turn k s = afterSlice p (slice pe k) s
+
+      go : Dec (pe % mostSlice ≡ 0) → run turn (slices pe) (noSlice w g) ≡ afterSlice p (pe % mostSlice) (wholeSlices p w g (pe / mostSlice))
+      go (yes z) =
+          let many : slices pe ≡ pe / mostSlice = omega arith in
+          rw (many, z) (whole-first ∙ after-none p _)
+      go (no z) =
+          let many : slices pe ≡ suc (pe / mostSlice) = omega arith in
+          let last : slice pe (pe / mostSlice) ≡ pe % mostSlice = omega arith in
+          rw (many, last) (ap (afterSlice p (pe % mostSlice)) whole-first)
+
+pub whole-falls : (p : Parameters) (w : Layers) (g : ℕ) → SoilIn p → LayersIn p w → g ≤ p .sm → (many : ℕ) → Falls p w g (many * mostSlice) (wholeSlices p w g many)
+unfolding wholeSlices run
+whole-falls p w g soil fits free zero = falls-begin p w g soil fits free
+whole-falls p w g soil fits free (suc many) =
+    let fell : many * mostSlice + mostSlice ≡ suc many * mostSlice = omega arith in
+    rw (← fell) (falls-more p w g soil fits free (many * mostSlice) mostSlice _ (whole-falls p w g soil fits free many))
