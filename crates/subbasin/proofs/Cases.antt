@@ -1,6 +1,6 @@
--- Case A of document 01, its first step over the definitions: one computation. Assumes nothing.
-use mathlib.Core.Path.{_≡_, refl}
-use Prim.Native.Nat.{ℕ}
+-- Case A of document 01, its first step over the definitions, and what rains yield: computations. Assumes nothing.
+use mathlib.Core.Path.{_≡_, refl, ap}
+use Prim.Native.Nat.{ℕ, _+_}
 use lib.ListN.{replicate}
 use Rattle.common.specs.Cases.{Agree}
 use Rattle.curve.specs.Store.{outflow, content}
@@ -9,7 +9,8 @@ use Rattle.subbasin.specs.Soil.{ep, evaporated}
 use Rattle.subbasin.specs.FreeWater.{drained}
 use Rattle.subbasin.specs.Lag.{leaving, waitingAfter, entered}
 use Rattle.subbasin.specs.Step.{stepped, steppedWhole}
-use Rattle.subbasin.specs.Cases.{case-a, weather-a, wholeRain, slicedRain, stepCases}
+use Rattle.subbasin.specs.Yields.{yield}
+use Rattle.subbasin.specs.Cases.{case-a, weather-a, wholeRain, slicedRain, dipping, stepCases}
 use Rattle.subbasin.proofs.slices.FastLaws.{fastSliced, sliced-fast, fastAfterSlice, unsliced-fast}
 use Rattle.subbasin.proofs.step.FastLaws.{fastStepped, stepped-fast}
 
@@ -54,8 +55,24 @@ pub step-a : stepped case-a weather-a ≡ answered 29970 20246 2431 22676 25030 
 unfolding fastStepped
 step-a = stepped-fast _ _
 
+-- what a rain yields, as it computes
+abbrev RbAndR : Stepped → ℕ
+RbAndR st = st .rb + st .r
+
+seven : yield (dipping 0) 0 7 ≡ 5
+unfolding yield fastStepped
+seven = ap RbAndR (stepped-fast _ _)
+
+eight : yield (dipping 0) 0 8 ≡ 4
+unfolding yield fastStepped
+eight = ap RbAndR (stepped-fast _ _)
+
+above-pan : yield (dipping 32768) 40500 41 ≡ 250
+unfolding yield fastStepped
+above-pan = ap RbAndR (stepped-fast _ _)
+
 pub step-cases : Agree stepCases
 unfolding outflow
 step-cases =
     rw (whole-a, whole-rain, step-a, sliced-rain)
-    (refl, (refl, (refl, (refl, (refl, (refl, (refl, (refl, (refl, (refl, (refl, (refl, (refl, (refl, tt))))))))))))))
+    (refl, (refl, (refl, (refl, (refl, (refl, (refl, (refl, (refl, (refl, (refl, (refl, (refl, (refl, (seven, (eight, (above-pan, tt)))))))))))))))))

@@ -1,5 +1,5 @@
 -- Document 01, "What the program prints" and "Proved cases": case A's sub-basin, and its first step as rows over the definitions,
--- with net rain in one as document 01 has it and by slices as document 02, No. 3, has it.
+-- with net rain in one as document 01 has it and by slices as document 02, No. 3, has it; and what rains yield, document 02, No. 5.
 use Prim.Native.Nat.{ℕ}
 use mathlib.Core.List.{List, [], _∷_, _++_}
 use lib.ListN.{replicate}
@@ -12,6 +12,7 @@ use Rattle.subbasin.specs.declared.step.Stepped.{Stepped}
 use Rattle.subbasin.specs.Soil.{tension}
 use Rattle.subbasin.specs.Slices.{sliced, unsliced}
 use Rattle.subbasin.specs.Step.{layersOf, let-go, stepped, steppedWhole}
+use Rattle.subbasin.specs.Yields.{yield}
 
 -- area, K, UM, LM, DM, C, BN, IM, SM, XN, KI, KG, CI, CG, then CS, L, REACH and all starts 0
 abbrev pub words-a : List ℕ
@@ -52,5 +53,13 @@ wholeCases = stepRows wholeRain (steppedWhole case-a weather-a) 105000 30000 444
 abbrev pub slicedCases : List Row
 slicedCases = stepRows slicedRain (stepped case-a weather-a) 105030 29970 9724 20246 2431 1215 22676
 
+-- Case A's sub-basin, empty, with UM 0, LM and DM 200,000, BN 20 and this IM: by the rounding of Power more rain may yield less, and with
+-- IM 32,768 and a pan of 40.5 mm 41 mm of rain yield RB alone; the second model's figures
+abbrev pub dipping : ℕ → SubBasin
+dipping im = ofWords (1 ∷ 65536 ∷ 0 ∷ 200000 ∷ 200000 ∷ 8192 ∷ 20 ∷ im ∷ 20000 ∷ 24 ∷ 16384 ∷ 16384 ∷ 32768 ∷ 32768 ∷ replicate 9 0)
+
+abbrev pub yieldCases : List Row
+yieldCases = row (yield (dipping 0) 0 7) 5 ∷ row (yield (dipping 0) 0 8) 4 ∷ row (yield (dipping 32768) 40500 41) 250 ∷ []
+
 abbrev pub stepCases : List Row
-stepCases = wholeCases ++ slicedCases
+stepCases = wholeCases ++ slicedCases ++ yieldCases

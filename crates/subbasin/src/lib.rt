@@ -1,4 +1,5 @@
-// One sub-basin, one step: document 01, sections "One sub-basin, one step", "The store law" and "The basin file".
+// One sub-basin, one step, and which rain would do: document 01, sections "One sub-basin, one step", "The store law" and "The basin
+// file"; document 02, Nos. 3 and 5.
 pub mod content;
 mod free_water;
 mod lag;
@@ -6,3 +7,5 @@ pub mod record;
 mod slices;
 mod soil;
 pub mod step;
+mod walk;
+pub mod yields;

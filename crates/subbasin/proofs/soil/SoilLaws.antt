@@ -1,11 +1,11 @@
 -- Evapotranspiration, runoff and the layers of tension water: what goes in comes out, and the layers keep their limits.
 -- Assumes nothing.
-use mathlib.Core.Path.{_≡_}
+use mathlib.Core.Path.{_≡_, refl}
 use Prim.Native.Nat.{ℕ, _+_, _-_, _*_, _/_, _≤_, _<_, min}
 use native.Mathlib.Nat.{mul-le-mul, mul-le-mul-left, mul-le-mul-right, div-le-of-le-mul, le-div-iff-mul-le}
 use native.Mathlib.Omega.{arith}
 use lib.Dec.{leb, ltb}
-use borrow.Author.Tests.{leb-true, leb-false, ltb-false}
+use borrow.Author.Tests.{le-leb, leb-true, leb-false, ltb-false}
 use Rattle.common.specs.Shares.{one}
 use Rattle.curve.specs.Capacity.{rise}
 use Rattle.curve.proofs.capacity.CallLaws.{CurveIn}
@@ -66,6 +66,17 @@ module _ (p : Parameters) (w : Layers) (soil : SoilIn p) (fits : LayersIn p w) w
       by-test (Evaporates w rain e) (leb e rain)
       (λ t. let l : e ≤ rain = leb-true e rain t in omega arith)
       (λ t. let l : rain < e = leb-false e rain t in deeper-evaporates rain e (min (w .wu) (e - rain)) (e - rain - min (w .wu) (e - rain)) (omega arith) (omega arith))
+
+  -- PE is what rain is above E, and the layers are then as they were
+  pub net-rain : (rain e : ℕ) → evaporated p w rain e .pe ≡ rain - e
+  unfolding evaporated deeper
+  net-rain rain e =
+      by-test (λ (ev : Evaporated). ev .pe ≡ rain - e) (leb e rain) (λ _. refl)
+      (λ t. let l : rain < e = leb-false e rain t in by-test (λ (ev : Evaporated). ev .pe ≡ rain - e) (leb (p .c * p .lm) (w .wl * one)) (λ _. omega arith) (λ _. omega arith))
+
+  pub rain-enough : (rain e : ℕ) → e ≤ rain → evaporated p w rain e .layers ≡ w
+  unfolding evaporated
+  rain-enough rain e h = rw (le-leb e rain h)
 
   -- no layer rises
   pub evaporation-in : (rain e : ℕ) → LayersIn p (evaporated p w rain e .layers)
