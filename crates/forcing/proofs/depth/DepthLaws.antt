@@ -107,3 +107,9 @@ module _ (x : Float) (said : Gauge) where
         either-zero = λ s e z. rw z (zero-call said s e);
         refused = call-zeros;
       }
+
+  -- an accepted depth is at most its limit
+  pub call-depth-le : depthCall x said .number ≡ 0 → depthCall x said .depth ≤ 1000 * limitOf said
+  call-depth-le z =
+      let inside = call-judged .accepted .0 z in
+      rw (depth-call-accepted x said inside) (depth-le (limitOf said) x inside)
