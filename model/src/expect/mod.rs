@@ -11,6 +11,7 @@ mod forcing_cases;
 mod places;
 mod plans;
 pub mod program_cases;
+mod rain_cases;
 mod subbasin_series;
 mod weather;
 mod week_cases;
@@ -20,9 +21,9 @@ use crate::{files, program};
 use std::io::{self, Write};
 
 #[rustfmt::skip]
-const NAMES: [&str; 11] = [
+const NAMES: [&str; 12] = [
     "curve_cases", "curve_speed", "subbasin_series", "forcing_cases", "file_cases", "basin_series", "week_cases",
-    "week_speed", "program_cases", "embedding", "account",
+    "week_speed", "rain_cases", "program_cases", "embedding", "account",
 ];
 
 pub fn names(out: &mut impl Write) -> io::Result<()> {
@@ -39,6 +40,7 @@ pub fn print(name: &str, out: &mut impl Write) -> io::Result<()> {
         "basin_series" => basin_series::print(out),
         "week_cases" => week_cases::print(out),
         "week_speed" => week_speed::print(out),
+        "rain_cases" => rain_cases::print(out),
         "program_cases" => program_cases::print(out),
         "embedding" => embedding::print(out),
         "account" => {
