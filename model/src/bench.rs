@@ -3,6 +3,7 @@
 use crate::chance::Chance;
 use crate::curve::root_of;
 use crate::expect::curve_speed::{self, argument, chain, ROUND};
+use crate::expect::rain_speed::{self, STATES};
 use crate::expect::week_speed::SIZES;
 use crate::files::{line, Files, LineWords, MEASURED};
 use crate::record::{range, WORDS};
@@ -127,12 +128,36 @@ pub fn weeks(week_speed: &Path, out: &mut impl Write) -> io::Result<()> {
     Ok(())
 }
 
+/// An answer for all 1,001 rains, in microseconds, beside a sub-basin call at 1,000 mm; then the model's 1,001 plain steps.
+/// What the program takes without either is taken off.
+pub fn rains(rain_speed: &Path, out: &mut impl Write) -> io::Result<()> {
+    writeln!(out, "contents      call     rains  ratio       model   (best of {RUNS})")?;
+    for state in STATES {
+        let [idle, call, none] = best(["idle", "call", "none"].map(|way| {
+            let mut rains = Command::new(rain_speed);
+            rains.arg(way).arg(state);
+            rains
+        }))?;
+        let each = |all: f64| 1_000.0 * all / rain_speed::ROUND as f64;
+        let [call, none] = [call, none].map(|all| each(all - idle) / 100.0);
+        let own = each(best_time(|| rain_speed::round(state, rain_speed::none)));
+        let ratio = none / call;
+        writeln!(out, "{state:8} {call:6.2} µs {none:6.1} µs {ratio:6.2} {own:8.1} µs")?;
+    }
+    Ok(())
+}
+
 /// The best time of a chain of a hundred rounds, in milliseconds.
 fn best_chain(turn: impl Fn(u64, u64) -> u64) -> f64 {
+    best_time(|| chain(|i, r| turn(i, black_box(r)), black_box(100 * ROUND)))
+}
+
+/// The best time of the model's own work, in milliseconds.
+fn best_time(work: impl Fn() -> u64) -> f64 {
     let mut best = f64::INFINITY;
     for _ in 0..RUNS {
         let start = Instant::now();
-        black_box(chain(|i, r| turn(i, black_box(r)), black_box(100 * ROUND)));
+        black_box(work());
         best = best.min(1_000.0 * start.elapsed().as_secs_f64());
     }
     best

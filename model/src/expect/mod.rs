@@ -12,6 +12,7 @@ mod places;
 mod plans;
 pub mod program_cases;
 mod rain_cases;
+pub mod rain_speed;
 mod subbasin_series;
 mod weather;
 mod week_cases;
@@ -21,9 +22,9 @@ use crate::{files, program};
 use std::io::{self, Write};
 
 #[rustfmt::skip]
-const NAMES: [&str; 12] = [
+const NAMES: [&str; 13] = [
     "curve_cases", "curve_speed", "subbasin_series", "forcing_cases", "file_cases", "basin_series", "week_cases",
-    "week_speed", "rain_cases", "program_cases", "embedding", "account",
+    "week_speed", "rain_cases", "rain_speed", "program_cases", "embedding", "account",
 ];
 
 pub fn names(out: &mut impl Write) -> io::Result<()> {
@@ -41,6 +42,7 @@ pub fn print(name: &str, out: &mut impl Write) -> io::Result<()> {
         "week_cases" => week_cases::print(out),
         "week_speed" => week_speed::print(out),
         "rain_cases" => rain_cases::print(out),
+        "rain_speed" => rain_speed::print(out),
         "program_cases" => program_cases::print(out),
         "embedding" => embedding::print(out),
         "account" => {
