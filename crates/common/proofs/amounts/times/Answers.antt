@@ -5,8 +5,7 @@ use native.Mathlib.Nat.{div-lt_iff_lt-mul, le-div_iff_mul-le}
 use native.Mathlib.Omega.{arith}
 use borrow.Author.Rules.{rules}
 use Rattle.common.specs.Amounts.{capped}
-use Rattle.common.proofs.amounts.times.Statement.{statement}
-use Rattle.common.proofs.amounts.times.Tie as tie
+use Rattle.common.proofs.amounts.times.Goals as goal
 
 none : {a : ℕ} (b : ℕ) → a ≡ 0 → 0 ≡ capped (a * b)
 none b e = rw e (omega arith)
@@ -17,17 +16,14 @@ too_much {a} {b} z h = omega (arith, (div-lt_iff_lt-mul z).0 h)
 fits : {a b : ℕ} → 0 < a → b ≤ (2 ^ 64 - 1) / a → a * b ≤ 2 ^ 64 - 1
 fits {a} {b} z h = omega (arith, (le-div_iff_mul-le z).0 h)
 
-returns : tie.Need-returns
-returns c = none _ c.if1.true
+pub returns-then-a-eq0 : goal.returns-then-a-eq0
+returns-then-a-eq0 c = none _ c.if-a-eq0.true
 
-returns-2 : tie.Need-returns-2
-returns-2 c = omega (arith, too_much (omega arith) c.if2.true)
+pub returns-then-a-b : goal.returns-then-a-b
+returns-then-a-b c = omega (arith, too_much (omega arith) c.if-a-b.true)
 
-mul-result : tie.Need-overflow-mul-result
-mul-result c = omega (arith, fits (omega arith) c.if2.false)
+pub overflow_mul-result : goal.overflow_mul-result
+overflow_mul-result c = omega (arith, fits (omega arith) c.if-a-b.false)
 
-returns-3 : tie.Need-returns-3
-returns-3 c = omega (arith, fits (omega arith) c.if2.false)
-
-pub times-spec : {M : Type 1} → statement M
-times-spec = tie.close (tie.spec returns (λ c. search rules) returns-2 mul-result returns-3)
+pub returns : goal.returns
+returns c = omega (arith, fits (omega arith) c.if-a-b.false)

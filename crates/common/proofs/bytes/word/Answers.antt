@@ -6,8 +6,7 @@ use native.Mathlib.Omega.{arith}
 use lib.ListN.{length, get_or-eq_default}
 use Rattle.common.specs.Bytes.{word_at}
 use borrow.Author.Rules.{rules}
-use Rattle.common.proofs.bytes.word.Statement.{statement}
-use Rattle.common.proofs.bytes.word.Tie as tie
+use Rattle.common.proofs.bytes.word.Goals as goal
 
 -- no byte of the word is there
 past : (f : List ℕ) (i : ℕ) → length f / 4 < i → (0 ≡ word_at f i) × (0 < 2 ^ 32)
@@ -21,16 +20,9 @@ past f i h =
     )
     (omega arith)
 
-returns : tie.Need-returns
-returns c = past _ _ c.if1.true
+pub returns-then-bytes-i : goal.returns-then-bytes-i
+returns-then-bytes-i c = past _ _ c.if-bytes-i.true
 
-returns-2 : tie.Need-returns-2
+pub returns : goal.returns
 unfolding word_at
-returns-2 c = omega arith
-
-pub word-spec : {M : Type 1} → statement M
-word-spec =
-    tie.close
-    (tie.spec returns (λ c. search rules) (λ c κs. search rules) (λ c. search rules) (λ c κs. search rules) (λ c. search rules)
-    (λ c. search rules) (λ c. search rules) (λ c κs. search rules) (λ c. search rules) (λ c. search rules) (λ c. search rules)
-    (λ c κs. search rules) (λ c. search rules) (λ c. search rules) returns-2)
+returns c = omega arith
