@@ -9,14 +9,18 @@ use Rattle.forcing.specs.Depth.{depth_call, JudgedNumber}
 use Rattle.forcing.proofs.depth.DepthLaws.{call_judged}
 use Rattle.forcing.proofs.depth.depth_of.Goals as goal
 
--- the answer's equation, and with it what document 01 says of it
-answered : (x : Float) (said : Gauge) {r : Depth} → r ≡ depth_call x said → (r ≡ depth_call x said) × JudgedNumber x said r
-answered x said e = (e, rw e (call_judged x said))
+-- what document 01 says of an answer
+judged : (x : Float) (said : Gauge) {r : Depth} → r ≡ depth_call x said → JudgedNumber x said r
+judged x said e = rw e (call_judged x said)
 
 pub returns-in-Rain : goal.returns-in-Rain
 unfolding depth_call
-returns-in-Rain c = answered _ _ (rw c.enum_told-1.given.1 c.judge.ensures)
+returns-in-Rain c =
+    let e : c.judge.result ≡ depth_call c.args.x c.args.said = rw c.in-Rain.is c.judge.ensures in
+    record { answered = e; judged = judged _ _ e }
 
 pub returns-in-Pan : goal.returns-in-Pan
 unfolding depth_call
-returns-in-Pan c = answered _ _ (rw c.enum_told-in-Pan-1.given.1 c.judge-in-Pan.ensures)
+returns-in-Pan c =
+    let e : c.judge-in-Pan.result ≡ depth_call c.args.x c.args.said = rw c.in-Pan.is c.judge-in-Pan.ensures in
+    record { answered = e; judged = judged _ _ e }

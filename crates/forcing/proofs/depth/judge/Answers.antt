@@ -8,9 +8,10 @@ use lib.Ieee.Bits.{of_bits-to_bits, to_bits-lt}
 use Rattle.forcing.proofs.depth.ValueLaws.{nan_answer, no_nan, of_number}
 use Rattle.forcing.proofs.depth.judge.Goals as goal
 
--- what owning an `f32` tells: the format holds it
-held : (c : tie.Start) → T (fits binary32 c.args.x)
-held c = subst T (sym c.well-formed.0.1) tt
+module _ (c : goal.After-wide) where
+  -- what owning an `f32` tells: the format holds it
+  held : T (fits binary32 c.args.x)
+  held = subst T (sym c.well_formed.0.1) tt
 
 pub returns-then-x : goal.returns-then-x
 returns-then-x c = c.answer_of.ensures ∙ nan_answer c.args.x c.args.limit c.if-x.true
@@ -24,4 +25,4 @@ judge_bits-requires c = omega (arith, to_bits-lt binary32 c.args.x (held c))
 pub returns : goal.returns
 returns c =
     c.judge_bits.ensures
-    ∙ ap (of_number c.args.limit) (ap (of_bits binary32) c.wide.ensures ∙ of_bits-to_bits binary32 c.args.x (held c))
+    ∙ ap (of_number c.args.limit) (ap (of_bits binary32) c.wide.ensures ∙ of_bits-to_bits binary32 c.args.x (held c.before))

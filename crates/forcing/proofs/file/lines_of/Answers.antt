@@ -20,7 +20,7 @@ cut x z n last e =
     each i p (no l) = table_past x z 32 last i (omega arith) ∙ sym (table_past x z 32 n i (omega arith))
 
 pub loop-k-init : goal.loop-k-init
-loop-k-init c = fill_table 32 c.line_of.ensures
+loop-k-init c = fill_table 32 c.line_of-zeros.ensures
 
 pub loop-k-preserved : goal.loop-k-preserved
 loop-k-preserved c = fill_turn c.loop-k.invariant c.loop-k-test.true c.file_line-line.ensures

@@ -14,10 +14,10 @@ pub returns-then-pan-ne0 : goal.returns-then-pan-ne0
 unfolding depth_call
 returns-then-pan-ne0 c =
     c.bad_line-then-pan-ne0.ensures
-    ∙ second_bad c.args.line c.judge_rain-rain.ensures c.depth_of-pan.ensures.0 c.if-rain-ne0.false c.if-pan-ne0.true
+    ∙ second_bad c.args.line c.judge_rain-rain.ensures c.depth_of-pan.ensures.answered c.if-rain-ne0.false c.if-pan-ne0.true
 
 pub returns : goal.returns
 unfolding depth_call
 returns c =
-    line_good c.args.line c.judge_rain-rain.ensures c.depth_of-pan.ensures.0
+    line_good c.args.line c.judge_rain-rain.ensures c.depth_of-pan.ensures.answered
     c.if-rain-ne0.false c.if-pan-ne0.false c.mark.ensures

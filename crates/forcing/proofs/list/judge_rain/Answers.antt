@@ -6,12 +6,12 @@ use Rattle.forcing.proofs.list.judge_rain.Goals as goal
 
 pub returns-in-Measured : goal.returns-in-Measured
 unfolding depth_call
-returns-in-Measured c = rw c.reading-1.given.1 c.depth_of.ensures.0
+returns-in-Measured c = rw c.in-Measured.is c.depth_of.ensures.answered
 
 pub returns-in-Estimated : goal.returns-in-Estimated
 unfolding depth_call
-returns-in-Estimated c = rw c.reading-in-Estimated-1.given.1 c.depth_of-in-Estimated.ensures.0
+returns-in-Estimated c = rw c.in-Estimated.is c.depth_of-in-Estimated.ensures.answered
 
 pub returns-in-Missing : goal.returns-in-Missing
 unfolding answer_by
-returns-in-Missing c = rw c.enum_told-1.given.1 c.missing.ensures
+returns-in-Missing c = rw c.in-Missing.is c.missing.ensures

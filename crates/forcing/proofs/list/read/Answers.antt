@@ -17,13 +17,8 @@ use Rattle.forcing.specs.List.{blank, line_at, weather_of, estimated_of, line_nu
 use Rattle.forcing.specs.Workers.{judged_line}
 use Rattle.forcing.proofs.list.LineLaws.{blank_number, estimated_one, judged_number, judged_good}
 use Rattle.forcing.proofs.list.ReadLaws.{miscounted, reading_judged}
+use Rattle.forcing.proofs.list.read.Invariants.{Before}
 use Rattle.forcing.proofs.list.read.Goals as goal
-
--- lines 1..at are not bad
-record Before (lines : List Line) (n : ℕ) (weather : List Weather) (estimated at : ℕ) : Type 0 where
-  filling : Filling (λ k. weather_of (line_at lines k)) (replicate 32 calm) n at weather
-  seeking : Seeking (λ k. line_number (line_at lines k)) n at
-  adding : Adding (λ k. estimated_of (line_at lines k).rain) n at estimated
 
 -- no more of them are estimated
 few : {lines : List Line} {n : ℕ} {weather : List Weather} {estimated at : ℕ} → Before lines n weather estimated at → estimated ≤ at
@@ -31,8 +26,9 @@ few {lines} {at = at} b =
     omega (arith, b.adding.so_far, sum_bound (λ k. estimated_of (line_at lines k).rain) 1 at (λ k l. estimated_one (line_at lines k).rain))
 
 -- the answer's equation, and with it what document 01 says of it
-answered : (lines : List Line) (count n : ℕ) {r : Forcing} → r ≡ reading lines count n → (r ≡ reading lines count n) × JudgedList lines count n r
-answered lines count n e = (e, rw e (reading_judged lines count n))
+answered : (lines : List Line) (count n : ℕ) {r : Forcing} → r ≡ reading lines count n
+    → record { answered : r ≡ reading lines count n; judged : JudgedList lines count n r }
+answered lines count n e = record { answered = e; judged = rw e (reading_judged lines count n) }
 
 module _ {lines : List Line} {count n : ℕ} {weather : List Weather} {estimated at : ℕ} (b : Before lines n weather estimated at)
     (counted : count ≡ n) where
@@ -72,12 +68,8 @@ module _ {lines : List Line} {count n : ℕ} {weather : List Weather} {estimated
             adding = add_turn b.adding h (ap (λ (x : Judged). x.estimated) g);
           }
 
--- what owning the lines tells
-lines_32 : (c : tie.Start invariant-loop decreases-loop) → length c.args.t1 ≡ 32
-lines_32 c = c.well-formed.0.1.0.1
-
 pub returns-then-count-n : goal.returns-then-count-n
-returns-then-count-n c = answered _ _ _ (c.refuse.ensures ∙ sym (miscounted c.args.t1 _ _ c.if-count-n.true))
+returns-then-count-n c = answered _ _ _ (c.refuse.ensures ∙ sym (miscounted c.args.lines _ _ c.if-count-n.true))
 
 pub loop-at-init : goal.loop-at-init
 loop-at-init c = record { filling = fill_begin; seeking = seek_begin; adding = add_begin }
@@ -86,22 +78,22 @@ pub returns-then-at-gt31 : goal.returns-then-at-gt31
 returns-then-at-gt31 c =
     answered _ _ _
     (c.refuse-then-at-gt31.ensures
-    ∙ missing c.loop-at.invariant c.if-count-n.false (lines_32 c) c.loop-at-test.true c.if-at-gt31.true)
+    ∙ missing c.loop-at.invariant c.if-count-n.false c.well_formed.0.1.0.1 c.loop-at-test.true c.if-at-gt31.true)
 
 pub returns-then-judged-ne0 : goal.returns-then-judged-ne0
 returns-then-judged-ne0 c =
     answered _ _ _
     (c.refuse-then-judged-ne0.ensures
-    ∙ found c.loop-at.invariant c.if-count-n.false (lines_32 c) c.loop-at-test.true c.if-at-gt31.false _
+    ∙ found c.loop-at.invariant c.if-count-n.false c.well_formed.0.1.0.1 c.loop-at-test.true c.if-at-gt31.false _
     c.judge_line-judged.ensures c.if-judged-ne0.true)
-
-pub overflow_add-estimated : goal.overflow_add-estimated
-overflow_add-estimated c = omega (arith, few (loop-at-preserved c))
 
 pub loop-at-preserved : goal.loop-at-preserved
 loop-at-preserved c =
-    turn c.loop-at.invariant c.if-count-n.false (lines_32 c) c.loop-at-test.true c.if-at-gt31.false _
+    turn c.loop-at.invariant c.if-count-n.false c.well_formed.0.1.0.1 c.loop-at-test.true c.if-at-gt31.false _
     c.judge_line-judged.ensures c.if-judged-ne0.false
+
+pub overflow_add-estimated : goal.overflow_add-estimated
+overflow_add-estimated c = omega (arith, few (loop-at-preserved c))
 
 pub returns : goal.returns
 returns c = answered _ _ _ (ended c.loop-at.invariant c.if-count-n.false c.loop-at-test.false)

@@ -21,6 +21,12 @@ use Rattle.forcing.proofs.list.LineLaws.{blank_number, estimated_one, judged_num
 use Rattle.forcing.proofs.list.ReadLaws.{miscounted, reading_judged}
 use Rattle.forcing.proofs.list.read.Given as goal
 
+-- lines 1..at are not bad
+pub record Before (lines : List Line) (n : ℕ) (weather : List Weather) (estimated at : ℕ) : Type 0 where
+  pub filling : Filling (λ k. weather_of (line_at lines k)) (replicate 32 calm) n at weather
+  pub seeking : Seeking (λ k. line_number (line_at lines k)) n at
+  pub adding : Adding (λ k. estimated_of (line_at lines k).rain) n at estimated
+
 abbrev pub invariant-loop-at : goal.invariant-loop-at
 invariant-loop-at l = Before l.lines l.n l.weather l.estimated l.at
 
