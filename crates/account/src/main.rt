@@ -1,4 +1,6 @@
 // The program: it reads basin.bin and forcing.bin in the current folder.
+#![tactic(auto)]
+
 use libc::STDOUT_FILENO;
 use program::FAILED;
 

@@ -1,5 +1,7 @@
 // The step call: case A of document 01, every number of a basin at both ends of its limits and beyond, and long series on basins of
 // every shape, with refused steps among them. What it must print comes from the second model: `model expect basin_series`.
+#![tactic(auto)]
+
 mod faults;
 mod limits;
 mod plan;

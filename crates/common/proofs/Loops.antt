@@ -11,7 +11,7 @@ use lib.Seq.{get_or-set_same, get_or-set_other}
 use borrow.Author.Tests.{eq-eqb, ne_eqb}
 use Rattle.common.specs.Loops.{run, filled, table, sum_of, every, first_bad}
 use Rattle.common.proofs.Limits.{both, parts}
-use Rattle.common.proofs.amounts.AmountLaws.{get_d_repeat}
+use Rattle.common.proofs.amounts.AmountLaws.{get_or_repeat}
 
 -- ---- carried state
 
@@ -69,7 +69,7 @@ module _ {A : Type 0} (x : ℕ → A) where
     table_in k l h = filled_in n (replicate many z) z k h (omega (arith, length-replicate many z))
 
     pub table_past : (k : ℕ) → n ≤ k → get_or (table x z n many) k z ≡ z
-    table_past k h = filled_past n (replicate many z) z k h ∙ get_d_repeat z many k
+    table_past k h = filled_past n (replicate many z) z k h ∙ get_or_repeat z many k
 
 -- two that are filled alike
 pub filled_same : {A : Type 0} (x y : ℕ → A) (n : ℕ) (l : List A) → ((k : ℕ) → k < n → x k ≡ y k) → filled x n l ≡ filled y n l

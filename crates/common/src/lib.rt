@@ -1,4 +1,6 @@
 // What every crate rests on: shares, amounts, the words of a byte slice, and the weather of one line.
+#![tactic(auto)]
+
 pub mod amounts;
 pub mod bytes;
 pub mod shares;

@@ -1,4 +1,6 @@
 // The capacity curve and the store law: document 01, sections "The capacity curve" and "The store law".
+#![tactic(auto)]
+
 pub mod capacity;
 mod guesses;
 mod powers;

@@ -1,5 +1,7 @@
 // How long a root and the search of an ordinate take, for model/bench: a chain, each of an argument that hangs on the answer before, so that
 // none can begin early. `curve_speed WAY` takes 100 rounds of 65,536 by one way; without an argument it takes a round by each, which is a test.
+#![tactic(auto)]
+
 ghost use Rattle.std.specs.Prelude.{◌≤◌};
 
 use curve::capacity;

@@ -1,4 +1,6 @@
 // A host of the library, as README.md has it: it loads a basin file of two sub-basins and takes a step a day.
+#![tactic(auto)]
+
 use basin::state::Basin;
 use basin::{file, step};
 use forcing::list::{Line, Reading};

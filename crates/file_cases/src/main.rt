@@ -1,5 +1,7 @@
 // The load call: good files of every N and M, every word below and above its range, every length, and files damaged at random. What
 // it must print comes from the second model: `model expect file_cases`.
+#![tactic(auto)]
+
 mod cases;
 mod damage;
 mod series;

@@ -1,5 +1,7 @@
 // The forcing list: document 01, "The forcing list", with refusals 5 to 8 and the depth call of "Who sent it", and the lines of the
 // forcing file.
+#![tactic(auto)]
+
 pub mod depth;
 pub mod file;
 pub mod list;

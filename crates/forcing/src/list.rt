@@ -9,7 +9,7 @@ use crate::depth::{Depth, Gauge};
 use common::weather::Weather;
 
 // A rain reading, in millimetres.
-#[derive(Drop)]
+#[derive(Clone, Copy)]
 pub enum Reading {
     Measured(f32),
     Estimated(f32),
@@ -17,7 +17,7 @@ pub enum Reading {
 }
 
 // One sub-basin's line: rain and pan, in millimetres.
-#[derive(Drop)]
+#[derive(Clone, Copy)]
 pub struct Line {
     pub rain: Reading,
     pub pan: f32,

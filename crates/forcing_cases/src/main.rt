@@ -1,5 +1,7 @@
 // The calls of `forcing`: depths on both sides of every half of a µm, at the limits and of every exponent, and the reading of lines
 // with a fault at every place. What it must print comes from the second model: `model expect forcing_cases`.
+#![tactic(auto)]
+
 mod depths;
 mod numbers;
 mod readings;

@@ -1,5 +1,7 @@
 // The program's work: document 01, "What the program prints". It reads a basin file and a forcing file and prints their lines, and what
 // keeps it from reading and printing all is said on standard error.
+#![tactic(auto)]
+
 mod calls;
 mod print;
 mod run;

@@ -1,5 +1,7 @@
 // The program's work on damaged and missing files, with its status, and all that it says of a refused load and of a part step. The
 // files come from the second model, `model program-cases`, and what must be printed too, `model expect program_cases`.
+#![tactic(auto)]
+
 use libc::STDOUT_FILENO;
 use program::say;
 use testing::lines;

@@ -1,5 +1,7 @@
 // The rain call: a sub-basin where more rain may yield less, drawn basins, refusals, and the sub-basin's own call. Of an answer is printed
 // what every right choice of a rain has in common. What it must print comes from the second model: `model expect rain_cases`.
+#![tactic(auto)]
+
 mod asked;
 mod dip;
 mod drawn;

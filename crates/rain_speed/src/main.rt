@@ -2,6 +2,8 @@
 // and that never run off but from their impervious part; a depth that no rain yields, and beside it the sub-basin call at 1,000 mm.
 // `rain_speed WAY STATE` goes a hundred rounds by one way, each time with a WU that hangs on what came before; without arguments it goes
 // one by each, which is a test.
+#![tactic(auto)]
+
 use basin_testing::files;
 use common::weather::Weather;
 use subbasin::record::SubBasin;

@@ -1,4 +1,6 @@
 // Which rain would do it: document 02, No. 5.
+#![tactic(auto)]
+
 ghost use Rattle.std.specs.Prelude.{◌≡◌};
 ghost use Rattle.forcing.specs.Depth.{answer};
 ghost use Rattle.rains.specs.Question.{asked, RainFor, Turns};

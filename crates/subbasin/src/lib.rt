@@ -1,5 +1,7 @@
 // One sub-basin, one step, and which rain would do: document 01, sections "One sub-basin, one step", "The store law" and "The basin
 // file"; document 02, Nos. 3 and 5.
+#![tactic(auto)]
+
 pub mod content;
 mod free_water;
 mod lag;

@@ -1,5 +1,7 @@
 // The sub-basin call: at both ends of every limit and one beyond, and in long random series, each call on the record that the one
 // before handed back, with refused calls among them. What it must print comes from the second model: `model expect subbasin_series`.
+#![tactic(auto)]
+
 mod basins;
 mod calls;
 mod choices;

@@ -1,4 +1,6 @@
 // What the test programs share: the checksum, the printed lines, the generator, records and files as numbers, and their ranges.
+#![tactic(auto)]
+
 pub mod case_a;
 pub mod chance;
 pub mod checksum;

@@ -1,4 +1,6 @@
 // The week in one call: document 02, No. 2.
+#![tactic(auto)]
+
 ghost use Rattle.std.specs.Prelude.{◌≡◌, ◌+◌, ◌≤◌, ◌<◌, length, drop, replicate};
 ghost use Rattle.forcing.specs.List.{blank};
 ghost use Rattle.basin.specs.Week.{fits, step_lines, joined, untaken, week_call, WeekJudged};

@@ -1,6 +1,8 @@
 // How long a week takes, for model/bench: 1,000 steps on 2 sub-basins and 63 on 32, in one call, by single steps, and by single steps
 // with a table of roots that is lent. `week_speed WAY N` takes a hundred weeks by one way, each on the basin that the one before handed
 // back; without arguments it takes one by each, which is a test.
+#![tactic(auto)]
+
 use basin::state::Basin;
 use basin::step;
 use basin::step::Outcome;

@@ -7,7 +7,7 @@ use native.Mathlib.Omega.{arith}
 use lib.ListN.{length, get_or, set}
 use Rattle.common.specs.Amounts.{sum}
 use Rattle.common.specs.Loops.{sum_of}
-use Rattle.common.proofs.amounts.AmountLaws.{get_d_within, at_most_sum, sum_clear}
+use Rattle.common.proofs.amounts.AmountLaws.{get_or_within, at_most_sum, sum_clear}
 use Rattle.common.proofs.Loops.{Filling, fill_begin, fill_turn, fill_end, fill_here, Carrying, carry_begin, carry_turn, carry_end}
 use Rattle.common.proofs.Loops.{Adding, add_begin, add_turn, add_end, sum_bound}
 use Rattle.curve.proofs.store.StoreLaws.{store_within}
@@ -56,7 +56,7 @@ module _ (m : ℕ) (rs : List Reach) (p : List ℕ) where
     module _ (more : i < m) (d : Reach) where
       -- the reach that is next is as it was
       here : get_or after i d ≡ get_or rs i blank_reach
-      here = fill_here s.filling d ∙ get_d_within rs i d blank_reach (omega (arith, s.long, s.flowing.m_most))
+      here = fill_here s.filling d ∙ get_or_within rs i d blank_reach (omega (arith, s.long, s.flowing.m_most))
 
       in_here : ReachIn m (suc i) (get_or after i d)
       in_here = rw here (reach_in_lem s.flowing s.wide i more)

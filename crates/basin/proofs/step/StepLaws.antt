@@ -9,7 +9,7 @@ use Rattle.common.specs.declared.weather.Weather.{Weather}
 use Rattle.common.specs.Weather.{calm}
 use Rattle.common.specs.Amounts.{sum}
 use Rattle.common.specs.Loops.{run, sum_of}
-use Rattle.common.proofs.amounts.AmountLaws.{sum_zeros, get_d_repeat}
+use Rattle.common.proofs.amounts.AmountLaws.{sum_zeros, get_or_repeat}
 use Rattle.common.proofs.Loops.{filled_length, filled_in, filled_past, sum_same}
 use Rattle.forcing.specs.declared.list.Line.{Line}
 use Rattle.forcing.specs.List.{reading}
@@ -46,7 +46,7 @@ module _ (b : Basin) (ws : List Weather) where
 
     sent_clear : (k : ℕ) → k ≤ b.n → Clear b.m 1 (sent_by b ws k)
     unfolding sent_by run
-    sent_clear zero h = record { before = λ k z l. absurd (omega arith); past = λ k l. get_d_repeat 0 32 k }
+    sent_clear zero h = record { before = λ k z l. absurd (omega arith); past = λ k l. get_or_repeat 0 32 k }
     sent_clear (suc k) h = send_clear b.m (sent_by b ws k) (sub_at b k).fixed.reach (step_of b ws k).q (to k (omega arith)) (sent_clear k (omega arith))
 
 -- ---- the sub-basins after a step

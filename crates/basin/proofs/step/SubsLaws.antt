@@ -8,7 +8,7 @@ use lib.ListN.{length, get_or, set, replicate}
 use Rattle.common.specs.declared.weather.Weather.{Weather}
 use Rattle.common.specs.Weather.{calm, WeatherIn}
 use Rattle.common.specs.Amounts.{sum}
-use Rattle.common.proofs.amounts.AmountLaws.{get_d_within, at_most_sum, sum_zeros}
+use Rattle.common.proofs.amounts.AmountLaws.{get_or_within, at_most_sum, sum_zeros}
 use Rattle.common.proofs.Loops.{Trying, try_begin, try_turn, try_stop, try_end}
 use Rattle.common.proofs.Loops.{Filling, fill_begin, fill_turn, fill_end, fill_here, Carrying, carry_begin, carry_turn, carry_end}
 use Rattle.common.proofs.Loops.{Adding, add_begin, add_turn, add_end}
@@ -79,10 +79,10 @@ module _ (b : Basin) (ws : List Weather) where
     module _ (more : i < b.n) where
       -- the sub-basin that is next is as it was, and has its own line's weather
       here : (d : SubBasin) → get_or subs i d ≡ sub_at b i
-      here d = fill_here s.filling d ∙ get_d_within b.subs i d blank_sub (omega (arith, s.long, s.n_most))
+      here d = fill_here s.filling d ∙ get_or_within b.subs i d blank_sub (omega (arith, s.long, s.n_most))
 
       sky : (d : Weather) → get_or ws i d ≡ get_or ws i calm
-      sky d = get_d_within ws i d calm (omega (arith, s.weathers.long, s.n_most))
+      sky d = get_or_within ws i d calm (omega (arith, s.weathers.long, s.n_most))
 
       pub weather_here : (d : Weather) → WeatherIn (get_or ws i d)
       weather_here d = rw (sky d) (s.weathers.each i)

@@ -14,15 +14,15 @@ use Rattle.common.specs.Amounts.{sum, all_up_to, capped}
 use Rattle.common.proofs.Limits.{both, parts}
 
 -- the default does not matter within a list
-pub get_d_within : {A : Type 0} (l : List A) (i : ℕ) (d e : A) → i < length l → get_or l i d ≡ get_or l i e
-get_d_within [] i d e h = absurd (not-suc-le-zero h)
-get_d_within (x ∷ l) zero d e h = refl
-get_d_within (x ∷ l) (suc i) d e h = get_d_within l i d e (le_of_suc-le-suc h)
+pub get_or_within : {A : Type 0} (l : List A) (i : ℕ) (d e : A) → i < length l → get_or l i d ≡ get_or l i e
+get_or_within [] i d e h = absurd (not-suc-le-zero h)
+get_or_within (x ∷ l) zero d e h = refl
+get_or_within (x ∷ l) (suc i) d e h = get_or_within l i d e (le_of_suc-le-suc h)
 
-pub get_d_repeat : {A : Type 0} (z : A) (n i : ℕ) → get_or (replicate n z) i z ≡ z
-get_d_repeat z zero i = refl
-get_d_repeat z (suc n) zero = refl
-get_d_repeat z (suc n) (suc i) = get_d_repeat z n i
+pub get_or_repeat : {A : Type 0} (z : A) (n i : ℕ) → get_or (replicate n z) i z ≡ z
+get_or_repeat z zero i = refl
+get_or_repeat z (suc n) zero = refl
+get_or_repeat z (suc n) (suc i) = get_or_repeat z n i
 
 pub length_take_most : (n : ℕ) (l : List ℕ) → length (take n l) ≤ n
 length_take_most zero l = omega arith

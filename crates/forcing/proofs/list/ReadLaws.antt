@@ -13,7 +13,7 @@ use Rattle.common.specs.declared.weather.Weather.{Weather}
 use Rattle.common.specs.Weather.{calm, WeatherIn}
 use Rattle.common.specs.Loops.{table, every, first_bad}
 use Rattle.common.proofs.Limits.{by_test, both, parts}
-use Rattle.common.proofs.amounts.AmountLaws.{get_d_repeat}
+use Rattle.common.proofs.amounts.AmountLaws.{get_or_repeat}
 use Rattle.common.proofs.Loops.{table_length, table_in, table_past, filled_same, sum_same, sum_bound, every_in, every_at, first_bad_same, first_bad_found}
 use Rattle.forcing.specs.declared.list.Line.{Line}
 use Rattle.forcing.specs.declared.list.Forcing.{Forcing}
@@ -118,7 +118,7 @@ module _ (lines : List Line) (count n : ℕ) where
   weather_in i =
       reading_cases (λ (r : Forcing). WeatherIn (get_or r.weather i calm)) lines count n
       (λ j. go (dec_le (suc i) n) (dec_le (suc i) 32) (j.each i))
-      (λ t number place h. rw (get_d_repeat calm 32 i) none)
+      (λ t number place h. rw (get_or_repeat calm 32 i) none)
     where
       none : WeatherIn calm
       none = record { rain_most = omega arith; pan_most = omega arith }

@@ -9,7 +9,7 @@ use lib.Seq.{length-take-le, split_at, drop_at, get_or-take}
 use Rattle.subbasin.specs.declared.record.LagLine.{LagLine}
 use Rattle.subbasin.specs.Lag.{in_use, leaving, waiting_after, entered, empty, fed, steps_ago, Lagged}
 use Rattle.common.specs.Amounts.{sum}
-use Rattle.common.proofs.amounts.AmountLaws.{UpTo, get_d_repeat, length_take_most, sum_append, sum_most, sum_zeros}
+use Rattle.common.proofs.amounts.AmountLaws.{UpTo, get_or_repeat, length_take_most, sum_append, sum_most, sum_zeros}
 use Rattle.common.proofs.amounts.AmountLaws.{up_to_zeros, up_to_append, up_to_take, up_to_drop, up_to_at}
 
 -- a line as 9 allows it: 15 places, and those past the lag are zero
@@ -98,7 +98,7 @@ module _ (lag : ℕ) (h : lag ≤ 15) where
   -- the places in use hold the amounts that entered, the newest first
   fed_place : (ts : List ℕ) (i : ℕ) → i < in_use (fed lag ts) → get_or (fed lag ts).waiting i 0 ≡ steps_ago i ts
   unfolding fed entered
-  fed_place [] i k = get_d_repeat 0 15 i
+  fed_place [] i k = get_or_repeat 0 15 i
   fed_place (t ∷ ts) zero k = after_place (fed lag ts) (fed_in ts) t 0 k
   fed_place (t ∷ ts) (suc i) k = after_place (fed lag ts) (fed_in ts) t (suc i) k ∙ fed_place ts i (omega arith)
 
