@@ -1,22 +1,15 @@
-// The program: it reads basin.bin and forcing.bin in the current folder.
+// The program: it reads basin.bin and forcing.bin in the current folder, and its exit status says how that ended.
 #![tactic(auto)]
 
-use libc::STDOUT_FILENO;
-use program::FAILED;
+use std::process::ExitCode;
 
-// Where the status goes, as a program has no exit status.
-const STATUS_FILENO: i32 = 3;
-
-fn main() {
-    let mut ended = program::account(b"basin.bin", b"forcing.bin");
-    // Some systems tell of a failed write only when the file is closed.
-    if libc::close(STDOUT_FILENO) < 0 {
-        os::fail(b"standard output: could not be closed");
-        ended = FAILED;
-    }
-    // ./account asks for it by an argument.
-    if os::arg_count() > 1 {
-        let digits = [b'0' + (ended % 10) as u8];
-        io::write_all(STATUS_FILENO, &digits);
-    }
+fn main(rt: HostRuntime) -> ExitCode {
+    let ended = program::account(
+        &rt,
+        &mut rt.stdout(),
+        &mut rt.stderr(),
+        "basin.bin",
+        "forcing.bin",
+    );
+    ExitCode::from(ended as u8)
 }
