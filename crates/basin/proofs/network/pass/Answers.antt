@@ -10,8 +10,7 @@ use Rattle.curve.proofs.store.StoreLaws.{store_accepts}
 use Rattle.basin.specs.declared.reach.Reach.{Reach}
 use Rattle.basin.specs.Network.{g_of, reach_out, reach_after}
 use Rattle.basin.specs.Workers.{Passing}
-use Rattle.basin.proofs.network.pass.Statement.{statement}
-use Rattle.basin.proofs.network.pass.Tie as tie
+use Rattle.basin.proofs.network.pass.Goals as goal
 
 abbrev store_of : Reach → Store
 store_of r = record { a = r.c0; g = g_of r; content = r.content }
@@ -23,11 +22,8 @@ module _ (r : Reach) (i : ℕ) (h : Passing r i) {x : Released} (called : x ≡ 
   passes : (◌≡◌ {A = Reach} (record { c0 = r.c0; c1 = r.c1; next = r.next; content = x.store.content }) (reach_after r i)) × (x.outflow ≡ reach_out r i)
   passes = (rw x_is, ap (λ (y : Released). y.outflow) x_is)
 
-add-t6 : tie.Need-overflow-add-t6
-add-t6 c = omega (arith, c.before.requires.g_most)
+pub overflow_add-store : goal.overflow_add-store
+overflow_add-store c = omega (arith, c.requires.g_most)
 
-returns : tie.Need-returns
-returns c = passes _ _ c.before.before.before.requires c.before.take.ensures
-
-pub pass_spec : {M : Type 1} → statement M
-pass_spec = tie.close (tie.spec add-t6 (λ c κs. search rules) returns)
+pub returns : goal.returns
+returns c = passes _ _ c.requires c.take-out.ensures
