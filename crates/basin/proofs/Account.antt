@@ -22,7 +22,7 @@ use Rattle.basin.specs.File.{file_n, file_m, file_sub, file_reach, file_basin, l
 use Rattle.basin.specs.Step.{step_call, Judged}
 use Rattle.basin.specs.Calls.{Call, results, last_basin}
 use Rattle.basin.specs.Week.{fits, week_calls, after, together, untaken, week_taken, week_call}
-use Rattle.basin.specs.Account.{Entry, step, week, steps_of, singles, handed, tells, last_handed, reports, losses, rule_week, AllFollow, Capacities}
+use Rattle.basin.specs.Account.{rule_after, Entry, step, week, steps_of, singles, handed, tells, last_handed, reports, losses, rule_week, AllFollow, Capacities}
 use Rattle.basin.specs.Account.{Accounted, Demand3, EachFollows, StepsAccounted}
 use Rattle.basin.proofs.reach.ReachLaws.{ReachWords, blank_reach_blank}
 use Rattle.basin.proofs.file.LoadedLaws.{load_limits, load_holds_file, file_sub_words, file_reach_words, file_subs_length, file_reaches_length}
@@ -40,7 +40,7 @@ module _ (w : Ran) (b : Basin) (lines : List Line) (count : ℕ) where
   out = step_call b lines count
 
   abbrev judged : Judged b lines count out
-  judged = (answers b lines count refl).1
+  judged = (answers b lines count refl).judges
 
   after_basin : w.basin ≡ b → (after w out).basin ≡ out.basin
   unfolding after
@@ -62,7 +62,7 @@ pub together_basin : (w : Ran) (b : Basin) (calls : List Call) → w.basin ≡ b
 unfolding together results last_basin
 together_basin w b [] e = e
 together_basin w b (c ∷ cs) e =
-    together_basin _ (step_call b c.lines c.count).basin cs (after_basin w b c.lines c.count e)
+    together_basin (after w (step_call b c.lines c.count)) (step_call b c.lines c.count).basin cs (after_basin w b c.lines c.count e)
 
 pub together_lost : (w : Ran) (b : Basin) (calls : List Call)
     → (together w (results b calls)).report.evapotranspiration + (together w (results b calls)).report.outlet
@@ -166,7 +166,7 @@ file_sound f h =
           λ i l. rw (sub i l) (sound_file (file_m f) (file_sub f i) (file_sub_words f h i l) (file_sub_empty f i).0 (file_sub_empty f i).1);
       reach_most = λ i l. rw (sub i l) (let ws = file_sub_words f h i l in omega arith);
       blank_subs = λ i l d. rw (file_sub_past f i l) blank_blank;
-      reach_words_lem = words;
+      reach_words = words;
       blank_reaches = λ j l d. rw (file_reach_past f j l) blank_reach_blank;
       held_down =
           held_empty (file_m f) (file_basin f).reaches words (caps_in (file_basin f))
@@ -226,7 +226,7 @@ reports_of_steps b (c ∷ cs) = rw (reports_of_steps (step_call b c.lines c.coun
 each_follows : (rule got : Basin) (calls : List Call) → AllFollow rule got (map step calls) → EachFollows rule got calls (results got calls)
 unfolding handed results
 each_follows rule got [] h = tt
-each_follows rule got (c ∷ cs) h = (h.0, each_follows _ (step_call got c.lines c.count).basin cs h.1)
+each_follows rule got (c ∷ cs) h = (h.0, each_follows (rule_after rule c) (step_call got c.lines c.count).basin cs h.1)
 
 -- the account of single steps follows from the statement at once
 pub steps_account : (f : List ℕ) (b : Basin) (calls : List Call) → Accounted f b (map step calls) → StepsAccounted f b calls

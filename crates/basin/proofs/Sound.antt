@@ -36,7 +36,7 @@ pub record SoundBasin (b : Basin) : Type 0 where
   pub sound_subs : (i : ℕ) → i < b.n → Sound (sub_at b i)
   pub reach_most : (i : ℕ) → i < b.n → (sub_at b i).fixed.reach ≤ b.m
   pub blank_subs : (i : ℕ) → b.n ≤ i → i < most_subs → is_blank (sub_at b i) ≡ true
-  pub reach_words_lem : (j : ℕ) → j < b.m → ReachWords b.m (suc j) (reach_at b j)
+  pub reach_words : (j : ℕ) → j < b.m → ReachWords b.m (suc j) (reach_at b j)
   pub blank_reaches : (j : ℕ) → b.m ≤ j → j < most_reaches → is_blank_reach (reach_at b j) ≡ true
   pub held_down : HeldDown b.m b.reaches (caps_in b)
 
@@ -107,7 +107,7 @@ module _ (b : Basin) (ws : List Weather) (h : SoundBasin b) (k : Weathers ws) wh
             λ i l. rw (sub_after b ws (sound_basin_in b h) (sound_shaped b h) k i l) (sound_step (sub_at b i) (get_or ws i calm) (h.sound_subs i l) (k.each i));
         reach_most = λ i l. rw (ap (λ (p : Parameters). p.reach) (same.fixed_same i)) (h.reach_most i l);
         blank_subs = λ i l d. rw (sub_past b ws (sound_basin_in b h) (sound_shaped b h) k i l) (h.blank_subs i l d);
-        reach_words_lem = λ j l. words_kept (h.reach_words j l) (same.words_same j);
+        reach_words = λ j l. words_kept (h.reach_words j l) (same.words_same j);
         blank_reaches = λ j l d. rw (after_past b.reaches (sent_by b ws b.n) b.m j l) (h.blank_reaches j l d);
         held_down = rw same_caps held_down_after;
       }

@@ -7,7 +7,7 @@ use common::shares::ONE;
 use curve::store::MOST_CONTENT;
 
 // A reach: the shares c0 and c1 in parts of 65,536, the reach it flows to (0: the outlet) and its content in m³.
-#[derive(Drop)]
+#[derive(Clone, Copy)]
 pub struct Reach {
     pub c0: u64,
     pub c1: u64,

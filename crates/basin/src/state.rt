@@ -7,7 +7,7 @@ use crate::reach::Reach;
 use subbasin::record::SubBasin;
 
 // N sub-basins and M reaches; the records past them are zero.
-#[derive(Drop)]
+#[derive(Clone, Copy)]
 pub struct Basin {
     pub n: u64,
     pub m: u64,

@@ -75,8 +75,8 @@ module _ (b : Basin) (number : ℕ) (pan : Float) where
         own_none s (asked b number pan).depth (record_in_lem s.fixed.reach s own) h.depth_most
 
   -- what is right of an answer tells whose turn it was
-  told : (wanted : ℕ) {a : Answer} → RainFor b number pan wanted a → RainFor b number pan wanted a × Turns b number pan a.number
-  told wanted h = (h, rw h.number_is turns)
+  told : (wanted : ℕ) {a : Answer} → RainFor b number pan wanted a → record { answers : RainFor b number pan wanted a; judges : Turns b number pan a.number }
+  told wanted h = record { answers = h; judges = rw h.number_is turns }
 
   module _ {given : Depth} (is : given ≡ asked b number pan) where
     number_is : (asked b number pan).number ≡ given.number
@@ -88,11 +88,11 @@ module _ (b : Basin) (number : ℕ) (pan : Float) where
         (here.least, omega (arith, here.most, allowed_n b here.allowed))
 
     module _ (wanted : ℕ) {a : Answer} where
-      pub question_refused : (given.number ≡ 0 → ⊥) → a ≡ refused given.number → RainFor b number pan wanted a × Turns b number pan a.number
+      pub question_refused : (given.number ≡ 0 → ⊥) → a ≡ refused given.number → record { answers : RainFor b number pan wanted a; judges : Turns b number pan a.number }
       question_refused n e = told wanted (rw is at (refuses (yield_of b number pan) wanted given.number n e))
 
       pub question_answered : {s : SubBasin} (d : SubBasin) → given.number ≡ 0 → s ≡ get_or b.subs (number - 1) d
-          → Answers (own_refusal s given.depth) (yield s given.depth) wanted a → RainFor b number pan wanted a × Turns b number pan a.number
+          → Answers (own_refusal s given.depth) (yield s given.depth) wanted a → record { answers : RainFor b number pan wanted a; judges : Turns b number pan a.number }
       question_answered {s} d z e h =
           let accepted = number_is ∙ z in
           let here = inside accepted in

@@ -67,13 +67,11 @@ soaked p pe w = w + gain p w pe (pe - rb p pe)
 unfoldable pub soaked_by : Parameters → ℕ → ℕ → ℕ
 soaked_by p many w = run (λ i x. soaked p most_slice x) many w
 
--- a walk at PE, where the whole slices leave this tension water; then comes the rest
-abbrev pub walk_with : Parameters → ℕ → ℕ → Walk
-walk_with p pe whole = record { pe = pe; slices = pe / most_slice; whole = whole; w = soaked p (pe % most_slice) whole }
-
--- where PE leaves tension water w
+-- where PE leaves tension water w: after its whole slices, and then its rest
 abbrev pub walk_at : Parameters → ℕ → ℕ → Walk
-walk_at p w pe = walk_with p pe (soaked_by p (pe / most_slice) w)
+walk_at p w pe =
+    let whole = soaked_by p (pe / most_slice) w in
+    record { pe = pe; slices = pe / most_slice; whole = whole; w = soaked p (pe % most_slice) whole }
 
 -- a walk before the first rain, and on from a rain to the next
 abbrev pub unwalked : ℕ → Walk
@@ -83,7 +81,9 @@ unfoldable pub climbed : Parameters → ℕ → ℕ → ℕ → ℕ
 climbed p whole from to = cond (ltb from to) (soaked p most_slice whole) whole
 
 unfoldable pub walked_to : Parameters → ℕ → Walk → Walk
-walked_to p pe before = walk_with p pe (climbed p before.whole before.slices (pe / most_slice))
+walked_to p pe before =
+    let whole = climbed p before.whole before.slices (pe / most_slice) in
+    record { pe = pe; slices = pe / most_slice; whole = whole; w = soaked p (pe % most_slice) whole }
 
 -- net rain of k millimetres where EP is e: P − EP, and none where P < EP
 abbrev pub net_rain : ℕ → ℕ → ℕ

@@ -10,7 +10,7 @@ use common::shares::ONE;
 use curve::store::MOST_CONTENT;
 
 // The words that no step changes, L apart. Area in km², capacities in µm, shares in parts of 65,536.
-#[derive(Drop)]
+#[derive(Clone, Copy)]
 pub struct Parameters {
     pub area: u64,
     pub k: u64,
@@ -31,7 +31,7 @@ pub struct Parameters {
 }
 
 // What waits over the sub-basin, in µm: tension water by layer, free water, interflow and ground water.
-#[derive(Drop)]
+#[derive(Clone, Copy)]
 pub struct Contents {
     pub wu: u64,
     pub wl: u64,
@@ -42,14 +42,14 @@ pub struct Contents {
 }
 
 // Up to 15 amounts in m³ in waiting, the newest first, and the lag L in steps.
-#[derive(Drop)]
+#[derive(Clone, Copy)]
 pub struct LagLine {
     pub lag: u64,
     pub waiting: [u64; 15],
 }
 
 // The lag line and the channel (CS) store's content in m³ complete the record.
-#[derive(Drop)]
+#[derive(Clone, Copy)]
 pub struct SubBasin {
     pub fixed: Parameters,
     pub contents: Contents,

@@ -15,7 +15,7 @@ use curve::capacity::Roots;
 pub const SLICE: u64 = 5000;
 
 // What the slices of a step have given: runoff and surface flow as sums, the layers, and the free water that is kept.
-#[derive(Drop)]
+#[derive(Clone, Copy)]
 pub struct Sliced {
     pub rb: u64,
     pub r: u64,
@@ -25,7 +25,7 @@ pub struct Sliced {
 }
 
 // A capacity curve: its mean and its greatest point capacity, and its exponent.
-#[derive(Drop)]
+#[derive(Clone, Copy)]
 pub struct Curve {
     c: u64,
     m: u64,

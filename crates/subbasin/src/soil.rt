@@ -9,7 +9,7 @@ use common::amounts::least;
 use common::shares::ONE;
 
 // Water in the upper, lower and deep layer.
-#[derive(Drop)]
+#[derive(Clone, Copy)]
 pub struct Layers {
     pub wu: u64,
     pub wl: u64,
@@ -27,7 +27,7 @@ pub struct Evaporated {
 }
 
 // Impervious and pervious runoff, and the layers after the gain.
-#[derive(Drop)]
+#[derive(Clone, Copy)]
 pub struct Runoff {
     pub rb: u64,
     pub r: u64,

@@ -1,4 +1,3 @@
 -- Laws that the proofs of this crate cite.
 pub mod Shape
-pub mod Walk
 pub mod GoingLaws

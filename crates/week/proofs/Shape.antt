@@ -7,9 +7,9 @@ use native.Mathlib.Omega.{arith}
 use lib.ListN.{length, get_or, length-map, get_or-eq_default}
 use mir.Val.{Val}
 use denote.Array.{each}
+use denote.RattleType.{RattleType}
 use denote.Laws.{Is}
 use denote.Shadow.{shadow}
-use denote.Struct.Field.{Field}
 use denote.Struct.Laws as LL
 use Rattle.subbasin.specs.declared.record.SubBasin.{SubBasin}
 use Rattle.subbasin.specs.Record.{blank_sub}
@@ -23,33 +23,44 @@ use Rattle.basin.specs.Workers.{Shaped}
 use Rattle.basin.specs.contracts.reach.Reach as R
 use Rattle.basin.specs.contracts.state.Basin as B
 use Rattle.basin.proofs.state.Basin.TheLaws as B'
+use Rattle.basin.specs.contracts.week.Ran as A
+use Rattle.basin.proofs.week.Ran.TheLaws as A'
+use Rattle.week.specs.declared.Going.{Going}
+use Rattle.week.specs.contracts.Going as G
+use Rattle.week.proofs.Going.TheLaws as G'
 
 -- an element of an array is of its type
-each_at : (F : Field) (xs : List F.Value) (us : List Val) → shadow (each F.row.Denot F.row.own_val (map F.into xs) us)
-    → (i : ℕ) (d : F.Value) → i < length xs → (u : Val) × Is F.row (F.into (get_or xs i d)) (u ∷ [])
-each_at F [] us s i d l = absurd (omega arith)
-each_at F (x ∷ xs) [] s i d l = absurd s
-each_at F (x ∷ xs) (u ∷ us) s zero d l = (u, s.0)
-each_at F (x ∷ xs) (u ∷ us) s (suc i) d l = each_at F xs us s.1 i d (omega arith)
+each_at : (R : RattleType) (xs : List R.Denot) (us : List Val) → shadow (each R.Denot R.own_val xs us)
+    → (i : ℕ) (d : R.Denot) → i < length xs → (u : Val) × Is R (get_or xs i d) (u ∷ [])
+each_at R [] us s i d l = absurd (omega arith)
+each_at R (x ∷ xs) [] s i d l = absurd s
+each_at R (x ∷ xs) (u ∷ us) s zero d l = (u, s.0)
+each_at R (x ∷ xs) (u ∷ us) s (suc i) d l = each_at R xs us s.1 i d (omega arith)
 
 sub_places : (s : SubBasin) (vs : List Val) → Is S.the_row s vs → length s.line.waiting ≡ 15
 sub_places s vs is =
     let line = (LL.owed S.the_type S'.the_laws s vs is).1.1.0 in
     let waiting = (LL.owed L.the_type L'.the_laws s.line _ line).1.0 in
-    sym (ap length (map-id s.line.waiting)) ∙ waiting.1.0.1
+    waiting.1.0.1
 
 module _ (b : Basin) (vs : List Val) (is : Is B.the_row b vs) where
   subs_long : length b.subs ≡ 32
-  subs_long = sym (length-map b.subs (S.the_field).into) ∙ (LL.owed B.the_type B'.the_laws b vs is).1.1.0.1.0.1
+  subs_long = (LL.owed B.the_type B'.the_laws b vs is).1.1.0.1.0.1
 
   reaches_long : length b.reaches ≡ 31
-  reaches_long = sym (length-map b.reaches (R.the_field).into) ∙ (LL.owed B.the_type B'.the_laws b vs is).1.1.1.0.1.0.1
+  reaches_long = (LL.owed B.the_type B'.the_laws b vs is).1.1.1.0.1.0.1
 
   waiting_long : (i : ℕ) → Dec (length b.subs ≤ i) → length (sub_at b i).line.waiting ≡ 15
   waiting_long i (yes l) = rw (get_or-eq_default b.subs blank_sub l)
   waiting_long i (no l) =
-      let s = each_at S.the_field b.subs _ (LL.owed B.the_type B'.the_laws b vs is).1.1.0.1.1 i blank_sub (omega arith) in
+      let s = each_at S.the_row b.subs _ (LL.owed B.the_type B'.the_laws b vs is).1.1.0.1.1 i blank_sub (omega arith) in
       sub_places (sub_at b i) (s.0 ∷ []) s.1
 
   pub basin_shaped : Shaped b
   basin_shaped = record { subs_length = subs_long; reaches_length = reaches_long; places = λ i l. waiting_long i (dec_le (length b.subs) i) }
+
+-- a week on its way holds a basin
+pub going_shaped : (g : Going) (vs : List Val) → Is G.the_row g vs → Shaped g.ran.basin
+going_shaped g vs is =
+    let ran = (LL.owed G.the_type G'.the_laws g vs is).1.1.1.0 in
+    basin_shaped g.ran.basin _ (LL.owed A.the_type A'.the_laws g.ran _ ran).1.1.0

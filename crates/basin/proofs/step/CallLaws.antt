@@ -166,5 +166,6 @@ module _ (b : Basin) (lines : List Line) (count : ℕ) where
 
 -- the equation of a step's answer, and with it all that the contract says
 pub answers : (b : Basin) (lines : List Line) (count : ℕ) {o : Outcome} → o ≡ step_call b lines count
-    → (o ≡ step_call b lines count) × Judged b lines count o
-answers b lines count e = (e, rw e (judged_cases b lines count (basin_in b) (is_inside lines count b.n) refl refl))
+    → record { answers : o ≡ step_call b lines count; judges : Judged b lines count o }
+answers b lines count e =
+    record { answers = e; judges = rw e (judged_cases b lines count (basin_in b) (is_inside lines count b.n) refl refl) }

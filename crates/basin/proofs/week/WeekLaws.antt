@@ -66,7 +66,7 @@ pub record Reported (b : Basin) (o : Outcome) : Type 0 where
 pub reported : (b : Basin) (lines : List Line) (count : ℕ) → Shaped b → {o : Outcome} → o ≡ step_call b lines count → o.number ≡ 0 → Reported b o
 unfolding taken
 reported b lines count sh {o} e z =
-    let in_both = (answers b lines count e).1.accepted.0 z in
+    let in_both = (answers b lines count e).judges.accepted.0 z in
     let h = basin_limits b in_both.0 in
     let k = reading_weathers lines count b.n in
     rw (e ∙ call_inside b lines count in_both.0 in_both.1)

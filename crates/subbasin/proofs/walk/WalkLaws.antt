@@ -19,7 +19,7 @@ use Rattle.subbasin.specs.Slices.{most_slice, after_slice, sliced}
 use Rattle.subbasin.specs.Step.{layers_of, stepped}
 use Rattle.subbasin.specs.Record.{words}
 use Rattle.subbasin.specs.Yields.{yield}
-use Rattle.subbasin.specs.Workers.{SoilIn, LayersIn, soaked, soaked_by, walk_with, walk_at, unwalked, climbed, walked_to, net_rain, unsoaked}
+use Rattle.subbasin.specs.Workers.{SoilIn, LayersIn, soaked, soaked_by, walk_at, unwalked, climbed, walked_to, net_rain, unsoaked}
 use Rattle.subbasin.proofs.soil.SoilLaws.{soil_in, layers_in, net_rain_lem, rain_enough, Gains, gain_in, refilled_fills}
 use Rattle.subbasin.proofs.free_water.FreeWaterLaws.{g_in}
 use Rattle.subbasin.proofs.slices.SlicesLaws.{sliced_falls, sliced_none, whole_slices, whole_falls, sliced_whole_rest}
@@ -81,7 +81,9 @@ climbs p w from to l h =
 -- from one rain to the next
 walks : (p : Parameters) (w from to : ℕ) → from ≤ to → to ≤ from + 1000 → walked_to p to (walk_at p w from) ≡ walk_at p w to
 unfolding walked_to
-walks p w from to l h = ap (walk_with p to) (climbs p w (from / most_slice) (to / most_slice) (omega arith) (omega arith))
+walks p w from to l h =
+    ap (λ (x : ℕ). record { pe = to; slices = to / most_slice; whole = x; w = soaked p (to % most_slice) x })
+    (climbs p w (from / most_slice) (to / most_slice) (omega arith) (omega arith))
 
 -- the walk from the first rain to that of k millimetres
 abbrev pub walked : Parameters → ℕ → ℕ → ℕ → Walk

@@ -1,0 +1,26 @@
+use Prim.Native.Nat.{◌-◌}
+use native.Mathlib.Omega.{arith}
+use Rattle.common.proofs.Limits.{Searching, search_begin, search_turn, search_found, search_none}
+use Rattle.subbasin.specs.Record.{word_count}
+use Rattle.basin.specs.File.{sub_words}
+use Rattle.basin.proofs.file.FileLaws.{in_subs, sub_part_lem, sub_part_le}
+use Rattle.basin.proofs.file.first_out_sub.Goals as goal
+
+pub loop-i-init : goal.loop-i-init
+loop-i-init c = search_begin (in_subs _ _) _
+
+pub overflow_add-result : goal.overflow_add-result
+overflow_add-result c = omega (arith, sub_part_le _ _ c.first_outside-k.ensures)
+
+pub returns-then-k-ne-SUB_WORDS : goal.returns-then-k-ne-SUB_WORDS
+returns-then-k-ne-SUB_WORDS c =
+    search_found (in_subs _ _) c.loop-i.invariant c.loop-i-test.true
+    (sub_part_lem _ _ _ c.sub_at-s.ensures c.first_outside-k.ensures) c.if-k-ne-SUB_WORDS.true
+
+pub loop-i-preserved : goal.loop-i-preserved
+loop-i-preserved c =
+    search_turn (in_subs _ _) c.loop-i.invariant c.loop-i-test.true
+    (sub_part_lem _ _ _ c.sub_at-s.ensures c.first_outside-k.ensures) c.if-k-ne-SUB_WORDS.false
+
+pub returns : goal.returns
+returns c = search_none (in_subs _ _) c.loop-i.invariant c.loop-i-test.false

@@ -1,0 +1,16 @@
+-- `basin::file::sub_at` meets its contract. The loop's invariant: k words are filled in, the others are zero. Assumes nothing.
+use mathlib.Core.Path.{ap, ◌∙◌}
+use Prim.Native.Nat.{◌+◌, ◌-◌}
+use native.Mathlib.Omega.{arith}
+use lib.ListN.{replicate}
+use Rattle.common.specs.Bytes.{word_at}
+use Rattle.common.proofs.Loops.{Filling, fill_begin, fill_turn, fill_end}
+use Rattle.subbasin.specs.Record.{word_count, of_words}
+use Rattle.basin.specs.File.{file_sub}
+use Rattle.basin.proofs.file.sub_at.Given as goal
+
+abbrev pub invariant-loop-k : goal.invariant-loop-k
+invariant-loop-k l = Filling (λ j. word_at l.bytes (l.start + j)) (replicate word_count 0) word_count l.k l.v
+
+abbrev pub decreases-loop-k : goal.decreases-loop-k
+decreases-loop-k l = word_count - l.k

@@ -1,0 +1,16 @@
+use Prim.Native.Nat.{◌-◌}
+use native.Mathlib.Omega.{arith}
+use lib.ListN.{replicate}
+use Rattle.common.proofs.Loops.{Filling, fill_table, fill_turn, fill_end}
+use Rattle.subbasin.specs.Record.{blank_sub}
+use Rattle.basin.specs.File.{file_sub}
+use Rattle.basin.proofs.file.subs_of.Goals as goal
+
+pub loop-i-init : goal.loop-i-init
+loop-i-init c = fill_table 32 c.of_words-blank.ensures
+
+pub loop-i-preserved : goal.loop-i-preserved
+loop-i-preserved c = fill_turn c.loop-i.invariant c.loop-i-test.true c.sub_at-s.ensures
+
+pub returns : goal.returns
+returns c = fill_end c.loop-i.invariant c.loop-i-test.false

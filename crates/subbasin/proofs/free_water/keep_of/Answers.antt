@@ -1,0 +1,26 @@
+-- `subbasin::free_water::keep_of` meets its contract. Assumes nothing.
+use mathlib.Core.Path.{◌≡◌}
+use Prim.Native.Nat.{ℕ, ◌+◌, ◌*◌, ◌/◌, ◌≤◌, ◌<◌, min}
+use native.Mathlib.Nat.{mul-le-mul, le_trans}
+use native.Mathlib.Omega.{arith}
+use borrow.Author.Tests.{lt-ltb}
+use Rattle.curve.specs.Capacity.{rise}
+use Rattle.curve.proofs.capacity.HeldLaws.{rise_le}
+use Rattle.subbasin.specs.declared.record.Parameters.{Parameters}
+use Rattle.subbasin.specs.FreeWater.{ms, level, keep}
+use borrow.Author.Rules.{rules}
+use Rattle.subbasin.proofs.free_water.keep_of.Goals as goal
+
+module _ (p : Parameters) (g pe r : ℕ) {top : ℕ} (risen : top ≡ rise p.sm (ms p) p.xn (level p g pe r) pe) where
+  top_le : p.sm ≤ 100000 → top ≤ 100000
+  top_le h = omega (arith, rise_le p.sm (ms p) p.xn (level p g pe r) pe)
+
+  kept_is : 0 < r → {kept : ℕ} → kept ≡ min (g + r) (top * r / pe) → kept ≡ keep p g pe r
+  unfolding keep
+  kept_is some h = rw (lt-ltb 0 r some, ← risen) h
+
+pub overflow_mul-top : goal.overflow_mul-top
+overflow_mul-top c = omega (arith, mul-le-mul (top_le _ _ _ _ c.requires.5 c.requires.0.sm_most) (le_trans c.requires.3 c.requires.4))
+
+pub returns : goal.returns
+returns c = kept_is _ _ _ _ c.requires.5 c.requires.2 c.least.ensures

@@ -1,0 +1,22 @@
+-- `subbasin::slices::take_slices` meets its contract: what the slices gave is carried from turn to turn. Assumes nothing.
+use mathlib.Core.Path.{◌≡◌, sym, ap, ◌∙◌}
+use Prim.Native.Nat.{ℕ, ◌+◌, ◌-◌, ◌*◌, ◌/◌, ◌≤◌, ◌<◌, min}
+use native.Mathlib.Omega.{arith}
+use Rattle.common.proofs.Loops.{Carrying, carry_begin, carry_turn, carry_end}
+use Rattle.subbasin.specs.declared.record.Parameters.{Parameters}
+use Rattle.subbasin.specs.declared.soil.Layers.{Layers}
+use Rattle.subbasin.specs.declared.slices.Sliced.{Sliced}
+use Rattle.subbasin.specs.Workers.{SoilIn, LayersIn, FreeIn, RoomFor}
+use Rattle.subbasin.specs.Slices.{most_slice, slices, slice, no_slice, after_slice, sliced}
+use Rattle.subbasin.proofs.slices.SlicesLaws.{Falls, falls, below, below_more, slice_some, sliced_none}
+use borrow.Author.Rules.{rules}
+use Rattle.subbasin.proofs.slices.take_slices.Given as goal
+
+abbrev pub Slicing : Parameters → ℕ → Sliced → ℕ → Sliced → Type 0
+Slicing p pe s₀ i s = Carrying (λ k t. after_slice p (slice pe k) t) s₀ (slices pe) i s
+
+abbrev pub invariant-loop-i : goal.invariant-loop-i
+invariant-loop-i l = Slicing l.p l.pe l.initial.given l.i l.given
+
+abbrev pub decreases-loop-i : goal.decreases-loop-i
+decreases-loop-i l = l.i-end - l.i
