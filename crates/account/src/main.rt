@@ -1,15 +1,31 @@
 // The program: it reads basin.bin and forcing.bin in the current folder, and its exit status says how that ended.
 #![tactic(auto)]
 
+use program::{FAILED, say};
+use std::fs::{OpenFile, OpenOptions};
 use std::process::ExitCode;
+use std::rt::Files;
+use std::{fs, io};
 
 fn main(rt: HostRuntime) -> ExitCode {
-    let ended = program::account(
-        &rt,
-        &mut rt.stdout(),
-        &mut rt.stderr(),
-        "basin.bin",
-        "forcing.bin",
-    );
+    let mut said = rt.stderr();
+    let mut ended = program::account(&rt, &mut rt.stdout(), &mut said, "basin.bin", "forcing.bin");
+    // Some systems tell of a failed write only when the file is stored.
+    if let Err(error) = store(&rt, "/dev/stdout") {
+        say::failed(&mut said, b"standard output: could not be stored", error);
+        ended = FAILED;
+    }
     ExitCode::from(ended as u8)
+}
+
+// Stores what was written to a file; to a pipe, a terminal or a device there is nothing to store.
+fn store(files: &impl Files, path: &str) -> io::Result<()> {
+    let is_file = fs::metadata(files, path).is_ok_and(|found| found.is_file());
+    if !is_file {
+        return Ok(());
+    }
+    match OpenOptions::new().append(true).open(files, path) {
+        Ok(file) => file.sync_all(),
+        Err(_) => Ok(()),
+    }
 }

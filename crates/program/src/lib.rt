@@ -45,20 +45,20 @@ pub fn account<F: Files, W: io::Write, E: io::Write>(
     if loaded.number != 0 {
         return refuse(to, said, &mut out, start, &bytes[..size], loaded);
     }
-    match fs::open(files, forcing) {
-        Ok(mut file) => {
-            let ran = run::run(&mut file, to, said, loaded.basin, &mut out);
-            ran.status
-        }
+    let basin = loaded.basin;
+    let mut file = match fs::open(files, forcing) {
+        Ok(file) => file,
         Err(error) => {
             say::failed(said, b"forcing.bin: could not be opened", error);
-            NOT_ALL
+            return NOT_ALL;
         }
-    }
+    };
+    let ran = run::run(&mut file, to, said, basin, &mut out);
+    ran.status
 }
 
 // The start of a file, and how its reading ended.
-#[derive(Clone, Copy)]
+#[derive(Drop)]
 struct Start {
     size: usize,
     ended: u64,

@@ -22,7 +22,7 @@ pub const OUT_BYTES: usize = 8256;
 const READS: u64 = 36028797018963968; // 2^55
 
 // How a run ended, and how far it came: the last basin, how many steps were taken, and how many bytes came of the one after them.
-#[derive(Clone, Copy)]
+#[derive(Drop)]
 pub struct Ran {
     pub status: u64,
     pub basin: Basin,
@@ -111,7 +111,7 @@ fn end_run<W: io::Write, E: io::Write>(
 }
 
 // What the steps of some bytes leave: the last outcome, how many steps and bytes that were, and where their lines end in the output.
-#[derive(Clone, Copy)]
+#[derive(Drop)]
 struct Taken {
     given: Outcome,
     steps: u64,
