@@ -15,9 +15,17 @@ pub fn print(out: &mut impl Write) -> io::Result<()> {
         "// Entry k is the greatest r with r * r <= k * 65,536. Written by `model roots`."
     )?;
     writeln!(out, "pub const ROOTS: [u32; 1024] = [")?;
+    // Laid out as `rt fmt` does it, in lines of up to 100 letters.
+    let mut line = String::from("   ");
     for root in table() {
-        writeln!(out, "    {root},")?;
+        let word = format!(" {root},");
+        if line.len() + word.len() > 100 {
+            writeln!(out, "{line}")?;
+            line = String::from("   ");
+        }
+        line += &word;
     }
+    writeln!(out, "{line}")?;
     writeln!(out, "];")
 }
 
