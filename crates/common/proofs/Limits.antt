@@ -9,7 +9,7 @@ use native.Mathlib.Omega.{arith}
 use lib.Dec.{leb}
 use lib.ListN.{length, take, drop, length-append}
 use borrow.Author.Tests.{le-leb, leb-true}
-use Rattle.common.specs.Limits.{within, Word, word, words_in, first_out}
+use Rattle.common.specs.Limits.{within, Word, words_in, first_out}
 
 -- ---- tests
 

@@ -1,10 +1,10 @@
 -- The lengths of a basin's arrays, out of its type. Assumes nothing.
-use mathlib.Core.Path.{◌≡◌, sym, ap, ◌∙◌}
-use mathlib.Core.List.{List, [], ◌∷◌, map, map-id}
+use mathlib.Core.Path.{◌≡◌}
+use mathlib.Core.List.{List, [], ◌∷◌}
 use Prim.Native.Nat.{ℕ, zero, suc, ◌≤◌, ◌<◌}
 use native.Mathlib.Decide.{dec_le}
 use native.Mathlib.Omega.{arith}
-use lib.ListN.{length, get_or, length-map, get_or-eq_default}
+use lib.ListN.{length, get_or, get_or-eq_default}
 use mir.Val.{Val}
 use denote.Array.{each}
 use denote.RattleType.{RattleType}
@@ -20,7 +20,6 @@ use Rattle.subbasin.proofs.record.LagLine.TheLaws as L'
 use Rattle.basin.specs.declared.state.Basin.{Basin}
 use Rattle.basin.specs.State.{sub_at}
 use Rattle.basin.specs.Workers.{Shaped}
-use Rattle.basin.specs.contracts.reach.Reach as R
 use Rattle.basin.specs.contracts.state.Basin as B
 use Rattle.basin.proofs.state.Basin.TheLaws as B'
 use Rattle.basin.specs.contracts.week.Ran as A

@@ -1,7 +1,6 @@
 -- `rains::judge` meets its contract. Assumes nothing.
 use mathlib.Core.Path.{sym, ◌∙◌}
 use native.Mathlib.Omega.{arith}
-use borrow.Author.Rules.{rules}
 use Rattle.rains.proofs.QuestionLaws.{asked_nine, asked_eleven, asked_pan}
 use Rattle.rains.proofs.judge.Goals as goal
 

@@ -1,7 +1,6 @@
 -- `rains::rain_for` meets its contract. Assumes nothing.
 use mathlib.Core.Path.{refl}
 use native.Mathlib.Omega.{arith}
-use borrow.Author.Rules.{rules}
 use Rattle.rains.proofs.QuestionLaws.{question_refused, number_in, question_answered}
 use Rattle.rains.proofs.rain_for.Goals as goal
 

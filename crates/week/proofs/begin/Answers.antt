@@ -1,7 +1,6 @@
 -- `week::begin` meets its contract: each way out is a law of the week. Assumes nothing.
 use mathlib.Core.Path.{sym, ◌∙◌}
 use native.Mathlib.Omega.{arith}
-use borrow.Author.Rules.{rules}
 use Rattle.basin.proofs.week.WeekLaws.{count_in}
 use Rattle.week.proofs.GoingLaws.{begun_whole, begun_length, begun_nine}
 use Rattle.week.proofs.begin.Goals as goal

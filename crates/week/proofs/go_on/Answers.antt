@@ -1,6 +1,5 @@
 -- `week::go_on` meets its contract: the step's outcome is known, and the sums fit by the balance. Assumes nothing.
 use native.Mathlib.Omega.{arith}
-use borrow.Author.Rules.{rules}
 use Rattle.week.proofs.GoingLaws.{gone_refused, gone_accepted, sums_fit}
 use Rattle.week.proofs.go_on.Goals as goal
 

@@ -1,6 +1,5 @@
 -- `week::halt` meets its contract. Assumes nothing.
 use mathlib.Core.Path.{ap}
-use borrow.Author.Rules.{rules}
 use Rattle.week.specs.Workers.{halted}
 use Rattle.week.proofs.halt.Goals as goal
 

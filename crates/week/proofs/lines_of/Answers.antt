@@ -1,4 +1,4 @@
-use Rattle.std.proofs.Common.{sym, refl, ap, ◌∙◌, ◌+◌, arith, drop, get_or, length}
+use Rattle.std.proofs.Common.{sym, ◌∙◌, ◌+◌, arith}
 use lib.Seq.{get_or-drop}
 use Rattle.forcing.specs.List.{blank}
 use Rattle.common.proofs.amounts.AmountLaws.{get_or_within}

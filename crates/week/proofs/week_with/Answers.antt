@@ -1,4 +1,4 @@
-use Rattle.std.proofs.Common.{sym, ap, ◌∙◌, subst, arith, length}
+use Rattle.std.proofs.Common.{sym, ap, ◌∙◌, subst, arith}
 use Rattle.week.specs.Workers.{gone_on}
 use Rattle.week.proofs.Shape.{basin_shaped, going_shaped}
 use Rattle.week.proofs.GoingLaws.{Along, begun_along, along_on, along_room, along_inside, along_less, along_end}

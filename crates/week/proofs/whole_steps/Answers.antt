@@ -1,5 +1,4 @@
 -- `week::whole_steps` meets its contract. Assumes nothing.
-use borrow.Author.Rules.{rules}
 use Rattle.basin.proofs.week.WeekLaws.{fits_not, fits_whole}
 use Rattle.week.proofs.whole_steps.Goals as goal
 

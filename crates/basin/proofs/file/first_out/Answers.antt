@@ -1,6 +1,5 @@
 -- `basin::file::first_out` meets its contract. Assumes nothing.
 use native.Mathlib.Omega.{arith}
-use borrow.Author.Rules.{rules}
 use Rattle.common.proofs.Limits.{parts_le}
 use Rattle.basin.proofs.file.FileLaws.{in_reaches, out_sub, out_reach}
 use Rattle.basin.proofs.file.first_out.Goals as goal

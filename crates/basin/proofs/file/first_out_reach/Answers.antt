@@ -1,8 +1,5 @@
-use Prim.Native.Nat.{◌-◌}
 use native.Mathlib.Omega.{arith}
-use Rattle.common.proofs.Limits.{Searching, search_begin, search_turn, search_found, search_none}
-use Rattle.basin.specs.Reach.{reach_word_count}
-use Rattle.basin.specs.File.{reaches_words}
+use Rattle.common.proofs.Limits.{search_begin, search_turn, search_found, search_none}
 use Rattle.basin.proofs.file.FileLaws.{in_reaches, reach_part_lem, part_le}
 use Rattle.basin.proofs.file.first_out_reach.Goals as goal
 

@@ -1,8 +1,5 @@
-use Prim.Native.Nat.{◌-◌}
 use native.Mathlib.Omega.{arith}
-use Rattle.common.proofs.Limits.{Searching, search_begin, search_turn, search_found, search_none}
-use Rattle.subbasin.specs.Record.{word_count}
-use Rattle.basin.specs.File.{sub_words}
+use Rattle.common.proofs.Limits.{search_begin, search_turn, search_found, search_none}
 use Rattle.basin.proofs.file.FileLaws.{in_subs, sub_part_lem, sub_part_le}
 use Rattle.basin.proofs.file.first_out_sub.Goals as goal
 

@@ -1,11 +1,9 @@
 -- `basin::file::first_out_sub` meets its contract. The loop's invariant: the rest of the search, from sub-basin i on, gives the answer.
 -- Assumes nothing.
 use Prim.Native.Nat.{◌-◌}
-use native.Mathlib.Omega.{arith}
-use Rattle.common.proofs.Limits.{Searching, search_begin, search_turn, search_found, search_none}
+use Rattle.common.proofs.Limits.{Searching}
 use Rattle.subbasin.specs.Record.{word_count}
 use Rattle.basin.specs.File.{sub_words}
-use Rattle.basin.proofs.file.FileLaws.{in_subs, sub_part_lem, sub_part_le}
 use Rattle.basin.proofs.file.first_out_sub.Given as goal
 
 abbrev pub invariant-loop-i : goal.invariant-loop-i

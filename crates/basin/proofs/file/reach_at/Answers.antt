@@ -1,5 +1,4 @@
 -- `basin::file::reach_at` meets its contract. Assumes nothing.
-use borrow.Author.Rules.{rules}
 use Rattle.basin.specs.File.{file_reach}
 use Rattle.basin.proofs.file.reach_at.Goals as goal
 

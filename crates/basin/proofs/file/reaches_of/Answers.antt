@@ -1,9 +1,4 @@
-use Prim.Native.Nat.{◌-◌}
-use native.Mathlib.Omega.{arith}
-use lib.ListN.{replicate}
-use Rattle.common.proofs.Loops.{Filling, fill_table, fill_turn, fill_end}
-use Rattle.basin.specs.Reach.{blank_reach}
-use Rattle.basin.specs.File.{file_reach}
+use Rattle.common.proofs.Loops.{fill_table, fill_turn, fill_end}
 use Rattle.basin.proofs.file.reaches_of.Goals as goal
 
 pub loop-j-init : goal.loop-j-init

@@ -1,8 +1,7 @@
 -- `basin::file::reaches_of` meets its contract. The loop's invariant: j reaches are filled in, the others are zero. Assumes nothing.
 use Prim.Native.Nat.{◌-◌}
-use native.Mathlib.Omega.{arith}
 use lib.ListN.{replicate}
-use Rattle.common.proofs.Loops.{Filling, fill_table, fill_turn, fill_end}
+use Rattle.common.proofs.Loops.{Filling}
 use Rattle.basin.specs.Reach.{blank_reach}
 use Rattle.basin.specs.File.{file_reach}
 use Rattle.basin.proofs.file.reaches_of.Given as goal

@@ -1,5 +1,4 @@
 -- `basin::file::refuse` meets its contract. Assumes nothing.
-use borrow.Author.Rules.{rules}
 use Rattle.basin.proofs.file.refuse.Goals as goal
 
 pub returns : goal.returns

@@ -1,10 +1,6 @@
 use mathlib.Core.Path.{ap, ◌∙◌}
-use Prim.Native.Nat.{◌+◌, ◌-◌}
-use native.Mathlib.Omega.{arith}
-use lib.ListN.{replicate}
-use Rattle.common.specs.Bytes.{word_at}
-use Rattle.common.proofs.Loops.{Filling, fill_begin, fill_turn, fill_end}
-use Rattle.subbasin.specs.Record.{word_count, of_words}
+use Rattle.common.proofs.Loops.{fill_begin, fill_turn, fill_end}
+use Rattle.subbasin.specs.Record.{of_words}
 use Rattle.basin.specs.File.{file_sub}
 use Rattle.basin.proofs.file.sub_at.Goals as goal
 

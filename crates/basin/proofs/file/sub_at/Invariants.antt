@@ -1,12 +1,9 @@
 -- `basin::file::sub_at` meets its contract. The loop's invariant: k words are filled in, the others are zero. Assumes nothing.
-use mathlib.Core.Path.{ap, ◌∙◌}
 use Prim.Native.Nat.{◌+◌, ◌-◌}
-use native.Mathlib.Omega.{arith}
 use lib.ListN.{replicate}
 use Rattle.common.specs.Bytes.{word_at}
-use Rattle.common.proofs.Loops.{Filling, fill_begin, fill_turn, fill_end}
-use Rattle.subbasin.specs.Record.{word_count, of_words}
-use Rattle.basin.specs.File.{file_sub}
+use Rattle.common.proofs.Loops.{Filling}
+use Rattle.subbasin.specs.Record.{word_count}
 use Rattle.basin.proofs.file.sub_at.Given as goal
 
 abbrev pub invariant-loop-k : goal.invariant-loop-k

@@ -1,9 +1,4 @@
-use Prim.Native.Nat.{◌-◌}
-use native.Mathlib.Omega.{arith}
-use lib.ListN.{replicate}
-use Rattle.common.proofs.Loops.{Filling, fill_table, fill_turn, fill_end}
-use Rattle.subbasin.specs.Record.{blank_sub}
-use Rattle.basin.specs.File.{file_sub}
+use Rattle.common.proofs.Loops.{fill_table, fill_turn, fill_end}
 use Rattle.basin.proofs.file.subs_of.Goals as goal
 
 pub loop-i-init : goal.loop-i-init

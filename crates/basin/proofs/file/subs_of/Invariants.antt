@@ -1,8 +1,7 @@
 -- `basin::file::subs_of` meets its contract. The loop's invariant: i records are filled in, the others are zero. Assumes nothing.
 use Prim.Native.Nat.{◌-◌}
-use native.Mathlib.Omega.{arith}
 use lib.ListN.{replicate}
-use Rattle.common.proofs.Loops.{Filling, fill_table, fill_turn, fill_end}
+use Rattle.common.proofs.Loops.{Filling}
 use Rattle.subbasin.specs.Record.{blank_sub}
 use Rattle.basin.specs.File.{file_sub}
 use Rattle.basin.proofs.file.subs_of.Given as goal

@@ -1,6 +1,5 @@
 -- `basin::limits::others_allowed` meets its contract. Assumes nothing.
 use mathlib.Core.Path.{sym, ◌∙◌}
-use borrow.Author.Rules.{rules}
 use Rattle.basin.proofs.limits.LimitsLaws.{counts_limits, counts_fail, subs_fail, reaches_fail, only_blanks}
 use Rattle.basin.proofs.limits.others_allowed.Goals as goal
 

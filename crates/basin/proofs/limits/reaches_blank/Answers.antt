@@ -1,10 +1,6 @@
 use mathlib.Core.Path.{sym, ◌∙◌}
-use Prim.Native.Nat.{◌+◌, ◌-◌}
 use native.Mathlib.Omega.{arith}
-use lib.ListN.{get_or}
-use Rattle.common.proofs.Loops.{Trying, try_begin, try_turn, try_stop, try_end}
-use Rattle.basin.specs.Reach.{blank_reach, is_blank_reach}
-use Rattle.basin.specs.State.{most_reaches}
+use Rattle.common.proofs.Loops.{try_begin, try_turn, try_stop, try_end}
 use Rattle.basin.specs.Limits.{reaches_blank}
 use Rattle.basin.proofs.limits.reaches_blank.Goals as goal
 

@@ -1,12 +1,9 @@
 -- `basin::limits::reaches_blank` meets its contract. The loop's invariant: the k reaches past the m in use are zero. Assumes nothing.
-use mathlib.Core.Path.{sym, ◌∙◌}
 use Prim.Native.Nat.{◌+◌, ◌-◌}
-use native.Mathlib.Omega.{arith}
 use lib.ListN.{get_or}
-use Rattle.common.proofs.Loops.{Trying, try_begin, try_turn, try_stop, try_end}
+use Rattle.common.proofs.Loops.{Trying}
 use Rattle.basin.specs.Reach.{blank_reach, is_blank_reach}
 use Rattle.basin.specs.State.{most_reaches}
-use Rattle.basin.specs.Limits.{reaches_blank}
 use Rattle.basin.proofs.limits.reaches_blank.Given as goal
 
 abbrev pub invariant-loop-k : goal.invariant-loop-k

@@ -1,10 +1,7 @@
 use mathlib.Core.Path.{sym, ◌∙◌}
-use Prim.Native.Nat.{suc, ◌-◌}
 use native.Mathlib.Numerals.{add-one}
 use native.Mathlib.Omega.{arith}
-use lib.ListN.{get_or}
-use Rattle.common.proofs.Loops.{Trying, try_begin, try_turn, try_stop, try_end}
-use Rattle.basin.specs.Reach.{blank_reach, reach_in}
+use Rattle.common.proofs.Loops.{try_begin, try_turn, try_stop, try_end}
 use Rattle.basin.specs.Limits.{reaches_used}
 use Rattle.basin.proofs.limits.reaches_used.Goals as goal
 

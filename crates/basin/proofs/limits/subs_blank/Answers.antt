@@ -1,10 +1,6 @@
 use mathlib.Core.Path.{sym, ◌∙◌}
-use Prim.Native.Nat.{◌+◌, ◌-◌}
-use native.Mathlib.Omega.{arith}
-use lib.ListN.{get_or}
-use Rattle.common.proofs.Loops.{Trying, try_begin, try_turn, try_stop, try_end}
-use Rattle.subbasin.specs.Record.{blank_sub, is_blank}
-use Rattle.basin.specs.State.{most_subs}
+use Prim.Native.Nat.{◌+◌}
+use Rattle.common.proofs.Loops.{try_begin, try_turn, try_stop, try_end}
 use Rattle.basin.specs.Limits.{subs_blank}
 use Rattle.basin.proofs.limits.LimitsLaws.{blank_read}
 use Rattle.basin.proofs.limits.subs_blank.Goals as goal

@@ -1,13 +1,9 @@
 -- `basin::limits::subs_blank` meets its contract. The loop's invariant: the k records past the n in use are zero. Assumes nothing.
-use mathlib.Core.Path.{sym, ◌∙◌}
 use Prim.Native.Nat.{◌+◌, ◌-◌}
-use native.Mathlib.Omega.{arith}
 use lib.ListN.{get_or}
-use Rattle.common.proofs.Loops.{Trying, try_begin, try_turn, try_stop, try_end}
+use Rattle.common.proofs.Loops.{Trying}
 use Rattle.subbasin.specs.Record.{blank_sub, is_blank}
 use Rattle.basin.specs.State.{most_subs}
-use Rattle.basin.specs.Limits.{subs_blank}
-use Rattle.basin.proofs.limits.LimitsLaws.{blank_read}
 use Rattle.basin.proofs.limits.subs_blank.Given as goal
 
 abbrev pub invariant-loop-k : goal.invariant-loop-k

@@ -1,9 +1,5 @@
 use mathlib.Core.Path.{sym, ◌∙◌}
-use Prim.Native.Nat.{◌-◌}
-use native.Mathlib.Omega.{arith}
-use lib.ListN.{get_or}
-use Rattle.common.proofs.Loops.{Trying, try_begin, try_turn, try_stop, try_end}
-use Rattle.subbasin.specs.Record.{blank_sub, record_in}
+use Rattle.common.proofs.Loops.{try_begin, try_turn, try_stop, try_end}
 use Rattle.basin.specs.Limits.{subs_used}
 use Rattle.basin.proofs.limits.LimitsLaws.{used_read}
 use Rattle.basin.proofs.limits.subs_used.Goals as goal

@@ -1,12 +1,8 @@
 -- `basin::limits::subs_used` meets its contract. The loop's invariant: every record before i is inside its limits. Assumes nothing.
-use mathlib.Core.Path.{sym, ◌∙◌}
 use Prim.Native.Nat.{◌-◌}
-use native.Mathlib.Omega.{arith}
 use lib.ListN.{get_or}
-use Rattle.common.proofs.Loops.{Trying, try_begin, try_turn, try_stop, try_end}
+use Rattle.common.proofs.Loops.{Trying}
 use Rattle.subbasin.specs.Record.{blank_sub, record_in}
-use Rattle.basin.specs.Limits.{subs_used}
-use Rattle.basin.proofs.limits.LimitsLaws.{used_read}
 use Rattle.basin.proofs.limits.subs_used.Given as goal
 
 abbrev pub invariant-loop-i : goal.invariant-loop-i

@@ -2,7 +2,6 @@
 use mathlib.Core.Path.{◌≡◌, ap, ◌∙◌}
 use Prim.Native.Nat.{ℕ}
 use native.Mathlib.Omega.{arith}
-use borrow.Author.Rules.{rules}
 use Rattle.curve.specs.declared.store.Store.{Store}
 use Rattle.curve.specs.declared.store.Released.{Released}
 use Rattle.curve.specs.Store.{released, store_call}

@@ -1,6 +1,5 @@
-use Prim.Native.Nat.{◌-◌}
 use native.Mathlib.Omega.{arith}
-use Rattle.basin.proofs.network.RouteLaws.{Routing, routing_begin, passing_here, next_here, sent_fits, held_fits, routing_turn, routing_end}
+use Rattle.basin.proofs.network.RouteLaws.{routing_begin, passing_here, next_here, sent_fits, held_fits, routing_turn, routing_end}
 use Rattle.basin.proofs.network.route.Goals as goal
 
 pub loop-i-init : goal.loop-i-init

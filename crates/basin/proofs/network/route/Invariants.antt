@@ -1,8 +1,7 @@
 -- `basin::network::route` meets its contract: before each turn `Routing` holds. The measure is the count of reaches that are left.
 -- Assumes nothing.
 use Prim.Native.Nat.{◌-◌}
-use native.Mathlib.Omega.{arith}
-use Rattle.basin.proofs.network.RouteLaws.{Routing, routing_begin, passing_here, next_here, sent_fits, held_fits, routing_turn, routing_end}
+use Rattle.basin.proofs.network.RouteLaws.{Routing}
 use Rattle.basin.proofs.network.route.Given as goal
 
 abbrev pub invariant-loop-i : goal.invariant-loop-i

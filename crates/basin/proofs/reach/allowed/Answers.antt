@@ -1,6 +1,5 @@
 -- `basin::reach::allowed` meets its contract. Assumes nothing.
 use native.Mathlib.Omega.{arith}
-use borrow.Author.Rules.{rules}
 use Rattle.basin.proofs.reach.ReachLaws.{words_outside, content_outside, all_inside}
 use Rattle.basin.proofs.reach.allowed.Goals as goal
 

@@ -1,7 +1,6 @@
 -- `basin::reach::first_outside` meets its contract. Assumes nothing.
 use mathlib.Core.Path.{sym}
 use native.Mathlib.Omega.{arith}
-use borrow.Author.Rules.{rules}
 use Rattle.common.proofs.Limits.{first_at, first_all}
 use Rattle.basin.proofs.reach.ReachLaws.{next_limits, next_in}
 use Rattle.basin.proofs.reach.first_outside.Goals as goal

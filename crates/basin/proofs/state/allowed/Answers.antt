@@ -1,7 +1,6 @@
 -- `basin::state::allowed` meets its contract. Assumes nothing.
 use mathlib.Core.Path.{◌≡◌, sym, ◌∙◌}
 use mathlib.Core.Bool.{Bool, true}
-use borrow.Author.Rules.{rules}
 use Rattle.basin.specs.declared.state.Basin.{Basin}
 use Rattle.basin.specs.Limits.{basin_in, Unused}
 use Rattle.basin.proofs.limits.LimitsLaws.{others_limits, basin_limits, basin_used, basin_others}

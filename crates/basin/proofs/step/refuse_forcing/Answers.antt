@@ -1,7 +1,6 @@
 -- `basin::step::refuse_forcing` meets its contract: once the sub-basins in use are judged, all of 9 is. Assumes nothing.
 use mathlib.Core.Path.{◌≡◌, sym, ap, ◌∙◌}
 use mathlib.Core.Bool.{Bool, cond}
-use borrow.Author.Rules.{rules}
 use Rattle.basin.specs.declared.step.Outcome.{Outcome}
 use Rattle.basin.proofs.limits.LimitsLaws.{others_limits, basin_used}
 use Rattle.basin.proofs.step.refuse_forcing.Goals as goal

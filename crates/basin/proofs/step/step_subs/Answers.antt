@@ -1,8 +1,7 @@
 use mathlib.Core.Path.{refl}
-use Prim.Native.Nat.{◌-◌}
 use native.Mathlib.Omega.{arith}
 use Rattle.basin.specs.Workers.{subs_only}
-use Rattle.basin.proofs.step.SubsLaws.{Stepping, stepping_begin, weather_here, stepping_stop, stepping_fits, stepping_turn, stepping_end}
+use Rattle.basin.proofs.step.SubsLaws.{stepping_begin, weather_here, stepping_stop, stepping_fits, stepping_turn, stepping_end}
 use Rattle.basin.proofs.step.step_subs.Goals as goal
 
 pub loop-i-init : goal.loop-i-init

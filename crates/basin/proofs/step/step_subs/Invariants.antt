@@ -1,10 +1,8 @@
 -- `basin::step::step_subs` meets its contract: before each turn `Stepping` holds. The measure is the count of sub-basins that are left.
 -- Assumes nothing.
-use mathlib.Core.Path.{refl}
 use Prim.Native.Nat.{◌-◌}
-use native.Mathlib.Omega.{arith}
 use Rattle.basin.specs.Workers.{subs_only}
-use Rattle.basin.proofs.step.SubsLaws.{Stepping, Fitting, stepping_begin, weather_here, stepping_stop, stepping_fits, stepping_turn, stepping_end}
+use Rattle.basin.proofs.step.SubsLaws.{Stepping}
 use Rattle.basin.proofs.step.step_subs.Given as goal
 
 abbrev pub invariant-loop-i : goal.invariant-loop-i

@@ -1,6 +1,5 @@
 -- `basin::step::step_with` meets its contract: each way out is a law of the step call. Assumes nothing.
 use mathlib.Core.Path.{sym, ◌∙◌}
-use borrow.Author.Rules.{rules}
 use Rattle.basin.proofs.step.StepLaws.{reading_weathers}
 use Rattle.basin.proofs.step.CallLaws.{call_accepted, call_refused, others_outside, answers}
 use Rattle.basin.proofs.step.step_with.Goals as goal

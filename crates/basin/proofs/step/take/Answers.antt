@@ -1,7 +1,6 @@
 -- `basin::step::take` meets its contract. Assumes nothing.
 use mathlib.Core.Path.{◌∙◌}
 use native.Mathlib.Omega.{arith}
-use borrow.Author.Rules.{rules}
 use Rattle.basin.proofs.limits.LimitsLaws.{others_limits}
 use Rattle.basin.proofs.step.CallLaws.{subs_refuse, flowing, taken_is}
 use Rattle.basin.proofs.step.take.Goals as goal

@@ -1,6 +1,5 @@
 -- `basin::step::take_turn` meets its contract. Assumes nothing.
 use native.Mathlib.Omega.{arith}
-use borrow.Author.Rules.{rules}
 use Rattle.basin.proofs.step.TurnLaws.{turn_refused, reach_outside, call_refuses, turn_fits, turn_accepted}
 use Rattle.basin.proofs.step.take_turn.Goals as goal
 

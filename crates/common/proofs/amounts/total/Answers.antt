@@ -1,7 +1,4 @@
-use Prim.Native.Nat.{◌-◌}
-use native.Mathlib.Omega.{arith}
-use lib.ListN.{length}
-use Rattle.common.proofs.amounts.AmountLaws.{Totalling, total_begin, total_turn, total_end}
+use Rattle.common.proofs.amounts.AmountLaws.{total_begin, total_turn, total_end}
 use Rattle.common.proofs.amounts.total.Goals as goal
 
 pub loop-i-init : goal.loop-i-init

@@ -1,8 +1,7 @@
 -- `common::amounts::total` meets its contract. Assumes nothing.
 use Prim.Native.Nat.{◌-◌}
-use native.Mathlib.Omega.{arith}
 use lib.ListN.{length}
-use Rattle.common.proofs.amounts.AmountLaws.{Totalling, total_begin, total_turn, total_end}
+use Rattle.common.proofs.amounts.AmountLaws.{Totalling}
 use Rattle.common.proofs.amounts.total.Given as goal
 
 abbrev pub invariant-loop-i : goal.invariant-loop-i

@@ -1,7 +1,4 @@
-use Prim.Native.Nat.{◌-◌}
-use native.Mathlib.Omega.{arith}
-use lib.ListN.{length}
-use Rattle.common.proofs.amounts.AmountLaws.{Looking, look_begin, look_turn, look_stop, look_end}
+use Rattle.common.proofs.amounts.AmountLaws.{look_begin, look_turn, look_stop, look_end}
 use Rattle.common.proofs.amounts.up_to.Goals as goal
 
 pub loop-i-init : goal.loop-i-init

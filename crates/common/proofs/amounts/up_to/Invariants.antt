@@ -1,8 +1,7 @@
 -- `common::amounts::up_to` meets its contract. Assumes nothing.
 use Prim.Native.Nat.{◌-◌}
-use native.Mathlib.Omega.{arith}
 use lib.ListN.{length}
-use Rattle.common.proofs.amounts.AmountLaws.{Looking, look_begin, look_turn, look_stop, look_end}
+use Rattle.common.proofs.amounts.AmountLaws.{Looking}
 use Rattle.common.proofs.amounts.up_to.Given as goal
 
 abbrev pub invariant-loop-i : goal.invariant-loop-i

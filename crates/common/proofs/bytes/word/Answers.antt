@@ -5,7 +5,6 @@ use Prim.Native.Nat.{ℕ, ◌+◌, ◌*◌, ◌/◌, ◌^◌, ◌<◌}
 use native.Mathlib.Omega.{arith}
 use lib.ListN.{length, get_or-eq_default}
 use Rattle.common.specs.Bytes.{word_at}
-use borrow.Author.Rules.{rules}
 use Rattle.common.proofs.bytes.word.Goals as goal
 
 -- no byte of the word is there

@@ -2,7 +2,6 @@
 use Prim.Native.Nat.{ℕ, ◌*◌, ◌/◌, ◌≤◌}
 use native.Mathlib.Nat.{mul-le-mul, mul-le-mul_left}
 use native.Mathlib.Omega.{arith}
-use borrow.Author.Rules.{rules}
 use Rattle.common.specs.Shares.{one}
 use Rattle.curve.specs.Capacity.{held_at, most_c}
 use Rattle.curve.proofs.capacity.held_at.Goals as goal

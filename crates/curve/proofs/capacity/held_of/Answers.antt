@@ -1,7 +1,5 @@
 -- `curve::capacity::held_of` meets its contract: it is held by the share above. Assumes nothing.
 use mathlib.Core.Path.{sym, ◌∙◌}
-use native.Mathlib.Omega.{arith}
-use borrow.Author.Rules.{rules}
 use Rattle.curve.specs.Capacity.{share_above}
 use Rattle.curve.proofs.capacity.HeldLaws.{share_above_le_one, held_is}
 use Rattle.curve.proofs.capacity.held_of.Goals as goal

@@ -1,7 +1,6 @@
 -- `curve::capacity::held_with` meets its contract. Assumes nothing.
 use mathlib.Core.Path.{sym, ap, ◌∙◌}
 use native.Mathlib.Omega.{arith}
-use borrow.Author.Rules.{rules}
 use Rattle.curve.specs.Capacity.{value}
 use Rattle.curve.proofs.capacity.CallLaws.{outside_yes, outside_no, held_accepts, held_refuses}
 use Rattle.curve.proofs.capacity.held_with.Goals as goal

@@ -1,12 +1,8 @@
 -- `curve::capacity::least_share` meets its contract. The invariant of its loop: with the share hi at most w is held, with lo more; where
 -- it is tried between them does not matter. The measure is the length of the interval. Assumes nothing.
-use mathlib.Core.Path.{◌≡◌, sym, ap, subst, ◌∙◌}
-use Prim.Native.Nat.{ℕ, ◌-◌, ◌≤◌, ◌<◌}
-use native.Mathlib.Omega.{arith}
+use Prim.Native.Nat.{◌-◌, ◌≤◌, ◌<◌}
 use Rattle.common.specs.Shares.{one}
-use Rattle.curve.specs.Capacity.{held_at, least_share}
-use Rattle.curve.proofs.capacity.HeldLaws.{held_at_one, held_at_zero}
-use Rattle.curve.proofs.capacity.ShareLaws.{least_share_is}
+use Rattle.curve.specs.Capacity.{held_at}
 use Rattle.curve.proofs.capacity.least_share.Given as goal
 
 abbrev pub invariant-loop-far : goal.invariant-loop-far

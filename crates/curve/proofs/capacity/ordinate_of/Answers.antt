@@ -2,7 +2,6 @@
 use mathlib.Core.Path.{sym, ap, ◌∙◌}
 use native.Mathlib.Nat.{mul-le-mul, mul-le-mul_right}
 use native.Mathlib.Omega.{arith}
-use borrow.Author.Rules.{rules}
 use Rattle.curve.specs.Capacity.{last_above}
 use Rattle.curve.proofs.capacity.ShareLaws.{ordinate_by_share}
 use Rattle.curve.proofs.capacity.ordinate_of.Goals as goal

@@ -1,7 +1,6 @@
 -- `curve::capacity::ordinate_with` meets its contract. Assumes nothing.
 use mathlib.Core.Path.{sym, ap, ◌∙◌}
 use native.Mathlib.Omega.{arith}
-use borrow.Author.Rules.{rules}
 use Rattle.curve.specs.Capacity.{value}
 use Rattle.curve.proofs.capacity.CallLaws.{outside_yes, outside_no, ordinate_accepts, ordinate_refuses}
 use Rattle.curve.proofs.capacity.ordinate_with.Goals as goal

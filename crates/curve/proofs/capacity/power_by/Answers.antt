@@ -1,7 +1,6 @@
 -- `curve::capacity::power_by` meets its contract. Assumes nothing.
 use mathlib.Core.Path.{sym, ap, ◌∙◌}
 use native.Mathlib.Omega.{arith}
-use borrow.Author.Rules.{rules}
 use Rattle.curve.specs.Capacity.{value}
 use Rattle.curve.proofs.capacity.CallLaws.{power_accepts, power_refuses}
 use Rattle.curve.proofs.capacity.power_by.Goals as goal

@@ -1,7 +1,6 @@
 -- `curve::capacity::root_with` meets its contract. Assumes nothing.
 use mathlib.Core.Path.{sym, ap, ◌∙◌}
 use native.Mathlib.Omega.{arith}
-use borrow.Author.Rules.{rules}
 use Rattle.curve.specs.Capacity.{value}
 use Rattle.curve.proofs.capacity.CallLaws.{root_accepts, root_refuses}
 use Rattle.curve.proofs.capacity.root_with.Goals as goal

@@ -1,6 +1,5 @@
 -- `curve::powers::part_of` meets its contract: the test is the definition's own. Assumes nothing.
 use native.Mathlib.Omega.{arith}
-use borrow.Author.Rules.{rules}
 use borrow.Author.Tests.{eq-eqb, ne_eqb}
 use Rattle.curve.specs.Capacity.{part}
 use Rattle.curve.proofs.capacity.PowerLaws.{shares_le}

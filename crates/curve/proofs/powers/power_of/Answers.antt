@@ -3,7 +3,6 @@ use mathlib.Core.Path.{◌≡◌, sym, ap, ap₂, ◌∙◌}
 use Prim.Native.Nat.{ℕ, ◌/◌, ◌%◌}
 use native.Mathlib.Omega.{arith}
 use borrow.Author.Tests.{ne_eqb}
-use borrow.Author.Rules.{rules}
 use Rattle.curve.specs.Capacity.{root, whole, part, power}
 use Rattle.curve.proofs.powers.power_of.Goals as goal
 
@@ -77,7 +76,7 @@ pub returns-then-e-eq0-3 : goal.returns-then-e-eq0-3
 returns-then-e-eq0-3 c =
     let at = c.args in (
       second at.t at.e c.whole_of-x.ensures.0 c.root_by-r1.ensures.0 c.part_of-x1.ensures.0 c.root_by-r2.ensures.0 c.part_of-x2.ensures.0
-      ∙ sym (bits_4 at.t at.e c.if-e-eq0-3.true),
+          ∙ sym (bits_4 at.t at.e c.if-e-eq0-3.true),
       c.part_of-x2.ensures.1,
     )
 
@@ -85,14 +84,14 @@ pub returns-then-e-eq0-4 : goal.returns-then-e-eq0-4
 returns-then-e-eq0-4 c =
     let at = c.args in (
       third at.t at.e c.whole_of-x.ensures.0 c.root_by-r1.ensures.0 c.part_of-x1.ensures.0 c.root_by-r2.ensures.0 c.part_of-x2.ensures.0
-      c.root_by-r3.ensures.0 c.part_of-x3.ensures.0
-      ∙ sym (bits_2 at.t at.e c.if-e-eq0-4.true),
+          c.root_by-r3.ensures.0 c.part_of-x3.ensures.0
+          ∙ sym (bits_2 at.t at.e c.if-e-eq0-4.true),
       c.part_of-x3.ensures.1,
     )
 
 pub returns : goal.returns
 returns c = (
   fourth c.args.t c.args.e c.whole_of-x.ensures.0 c.root_by-r1.ensures.0 c.part_of-x1.ensures.0 c.root_by-r2.ensures.0 c.part_of-x2.ensures.0
-  c.root_by-r3.ensures.0 c.part_of-x3.ensures.0 c.root_by.ensures.0 c.part_of.ensures.0,
+      c.root_by-r3.ensures.0 c.part_of-x3.ensures.0 c.root_by.ensures.0 c.part_of.ensures.0,
   c.part_of.ensures.1,
 )

@@ -1,9 +1,7 @@
 use mathlib.Core.Path.{refl}
-use Prim.Native.Nat.{◌-◌, ◌≤◌}
 use native.Mathlib.Omega.{arith}
-use Rattle.common.specs.Shares.{one}
-use Rattle.common.proofs.Loops.{Carrying, carry_begin, carry_turn, carry_end}
-use Rattle.curve.specs.Capacity.{by, whole}
+use Rattle.common.proofs.Loops.{carry_begin, carry_turn, carry_end}
+use Rattle.curve.specs.Capacity.{whole}
 use Rattle.curve.proofs.capacity.PowerLaws.{shares_le}
 use Rattle.curve.proofs.powers.whole_of.Goals as goal
 

@@ -1,11 +1,8 @@
 -- `curve::powers::whole_of` meets its contract: x is carried from turn to turn, and stays a share. Assumes nothing.
-use mathlib.Core.Path.{refl}
 use Prim.Native.Nat.{◌-◌, ◌≤◌}
-use native.Mathlib.Omega.{arith}
 use Rattle.common.specs.Shares.{one}
-use Rattle.common.proofs.Loops.{Carrying, carry_begin, carry_turn, carry_end}
-use Rattle.curve.specs.Capacity.{by, whole}
-use Rattle.curve.proofs.capacity.PowerLaws.{shares_le}
+use Rattle.common.proofs.Loops.{Carrying}
+use Rattle.curve.specs.Capacity.{by}
 use Rattle.curve.proofs.powers.whole_of.Given as goal
 
 abbrev pub invariant-loop : goal.invariant-loop

@@ -1,6 +1,5 @@
 -- `curve::roots::entry` meets its contract. Assumes nothing.
 use native.Mathlib.Omega.{arith}
-use borrow.Author.Rules.{rules}
 use Rattle.curve.proofs.roots.LeadLaws.{entry_most, printed_at}
 use Rattle.curve.proofs.roots.entry.Goals as goal
 

@@ -1,6 +1,5 @@
 -- `curve::roots::lead` meets its contract. Assumes nothing.
 use native.Mathlib.Omega.{arith}
-use borrow.Author.Rules.{rules}
 use Rattle.curve.proofs.capacity.RootLaws.{root_half}
 use Rattle.curve.proofs.roots.lead.Goals as goal
 

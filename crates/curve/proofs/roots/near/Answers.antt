@@ -2,7 +2,6 @@
 use Prim.Native.Nat.{◌*◌, ◌/◌}
 use native.Mathlib.Nat.{div-le_self}
 use native.Mathlib.Omega.{arith}
-use borrow.Author.Rules.{rules}
 use Rattle.common.specs.Shares.{one}
 use Rattle.curve.proofs.roots.LeadLaws.{entry_least, step_least, step_most}
 use Rattle.curve.proofs.roots.near.Goals as goal

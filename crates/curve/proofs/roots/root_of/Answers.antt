@@ -2,7 +2,6 @@
 -- Assumes nothing.
 use mathlib.Core.Path.{sym, ap, ◌∙◌}
 use native.Mathlib.Omega.{arith}
-use borrow.Author.Rules.{rules}
 use Rattle.curve.specs.Capacity.{root}
 use Rattle.curve.proofs.capacity.RootLaws.{root_one, root_le_one, square_positive}
 use Rattle.curve.proofs.roots.LeadLaws.{one_too_great, not_too_great, square_fits}

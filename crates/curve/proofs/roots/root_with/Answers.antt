@@ -1,7 +1,6 @@
 -- `curve::roots::root_with` meets its contract: the squares tell that it is the root, whatever table has led there. Assumes nothing.
 use mathlib.Core.Path.{sym}
 use native.Mathlib.Omega.{arith}
-use borrow.Author.Rules.{rules}
 use Rattle.curve.proofs.capacity.RootLaws.{root_unique, root_le_one, square_positive}
 use Rattle.curve.proofs.roots.LeadLaws.{root_before, square_fits}
 use Rattle.curve.proofs.roots.root_with.Goals as goal

@@ -1,7 +1,6 @@
 -- `forcing::depth::depth_of` meets its contract: each arm is given what the number is said to be.
 -- Assumes nothing.
 use mathlib.Core.Path.{◌≡◌}
-use borrow.Author.Rules.{rules}
 use lib.Ieee.{Float}
 use Rattle.forcing.specs.declared.depth.Gauge.{Gauge}
 use Rattle.forcing.specs.declared.depth.Depth.{Depth}

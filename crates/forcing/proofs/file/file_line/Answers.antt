@@ -2,7 +2,6 @@
 use mathlib.Core.Path.{◌≡◌, ◌∙◌}
 use mathlib.Core.List.{List}
 use Prim.Native.Nat.{ℕ, ◌+◌, ◌*◌}
-use native.Mathlib.Omega.{arith}
 use Rattle.common.specs.Bytes.{word_at}
 use Rattle.forcing.specs.File.{line_of, file_line}
 use Rattle.forcing.proofs.file.file_line.Goals as goal

@@ -1,11 +1,11 @@
 use mathlib.Core.Path.{◌≡◌, sym, ◌∙◌}
-use Prim.Native.Nat.{ℕ, suc, ◌-◌, ◌<◌, min}
+use Prim.Native.Nat.{ℕ, suc, ◌<◌, min}
 use native.Mathlib.Decide.{dec_le}
 use native.Mathlib.Omega.{arith}
-use lib.ListN.{get_or, replicate}
+use lib.ListN.{get_or}
 use lib.Seq.{ext_get_or}
 use Rattle.common.specs.Loops.{table}
-use Rattle.common.proofs.Loops.{Filling, fill_table, fill_turn, fill_end, table_length, table_in, table_past}
+use Rattle.common.proofs.Loops.{fill_table, fill_turn, fill_end, table_length, table_in, table_past}
 use Rattle.forcing.specs.File.{line_of, file_line, lines_of}
 use Rattle.forcing.proofs.file.lines_of.Goals as goal
 

@@ -1,14 +1,9 @@
 -- `forcing::file::lines_of` meets its contract. The invariant of its loop: k lines are filled in, the others are lines of zeros. The
 -- measure is the count of lines that are left. Assumes nothing.
-use mathlib.Core.Path.{◌≡◌, sym, ◌∙◌}
-use Prim.Native.Nat.{ℕ, suc, ◌-◌, ◌<◌, min}
-use native.Mathlib.Decide.{dec_le}
-use native.Mathlib.Omega.{arith}
-use lib.ListN.{get_or, replicate}
-use lib.Seq.{ext_get_or}
-use Rattle.common.specs.Loops.{table}
-use Rattle.common.proofs.Loops.{Filling, fill_table, fill_turn, fill_end, table_length, table_in, table_past}
-use Rattle.forcing.specs.File.{line_of, file_line, lines_of}
+use Prim.Native.Nat.{◌-◌}
+use lib.ListN.{replicate}
+use Rattle.common.proofs.Loops.{Filling}
+use Rattle.forcing.specs.File.{line_of, file_line}
 use Rattle.forcing.proofs.file.lines_of.Given as goal
 
 abbrev pub invariant-loop-k : goal.invariant-loop-k

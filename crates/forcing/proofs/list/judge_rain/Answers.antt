@@ -1,6 +1,5 @@
 -- `forcing::list::judge_rain` meets its contract: each arm is given which reading it is.
 -- Assumes nothing.
-use borrow.Author.Rules.{rules}
 use Rattle.forcing.specs.Depth.{answer_by, depth_call}
 use Rattle.forcing.proofs.list.judge_rain.Goals as goal
 

@@ -1,24 +1,14 @@
 -- `forcing::list::read` meets its contract: three loops in one, that fills in the weather, seeks a bad line and adds up the marks.
 -- The measure is how many lines are left. Assumes nothing.
-use mathlib.Core.Path.{◌≡◌, ap, sym, ◌∙◌}
 use mathlib.Core.List.{List}
-use Prim.Native.Nat.{ℕ, ◌+◌, ◌-◌, ◌≤◌, ◌<◌}
-use native.Mathlib.Numerals.{add-one}
-use native.Mathlib.Omega.{arith}
-use borrow.Author.Tests.{eq-eqb, ne_eqb}
-use lib.ListN.{length, get_or, set, replicate, get_or-eq_default}
+use Prim.Native.Nat.{ℕ, ◌-◌}
+use lib.ListN.{replicate}
 use Rattle.common.specs.declared.weather.Weather.{Weather}
 use Rattle.common.specs.Weather.{calm}
-use Rattle.common.proofs.amounts.AmountLaws.{get_or_within}
-use Rattle.common.proofs.Loops.{Filling, fill_begin, fill_turn, fill_end, Seeking, seek_begin, seek_turn, seek_found, seek_end}
-use Rattle.common.proofs.Loops.{Adding, add_begin, add_turn, add_end, sum_bound}
+use Rattle.common.proofs.Loops.{Filling, Seeking}
+use Rattle.common.proofs.Loops.{Adding}
 use Rattle.forcing.specs.declared.list.Line.{Line}
-use Rattle.forcing.specs.declared.list.Judged.{Judged}
-use Rattle.forcing.specs.declared.list.Forcing.{Forcing}
-use Rattle.forcing.specs.List.{blank, line_at, weather_of, estimated_of, line_number, refusal, judged_lines, reading, JudgedList}
-use Rattle.forcing.specs.Workers.{judged_line}
-use Rattle.forcing.proofs.list.LineLaws.{blank_number, estimated_one, judged_number, judged_good}
-use Rattle.forcing.proofs.list.ReadLaws.{miscounted, reading_judged}
+use Rattle.forcing.specs.List.{line_at, weather_of, estimated_of, line_number}
 use Rattle.forcing.proofs.list.read.Given as goal
 
 -- lines 1..at are not bad

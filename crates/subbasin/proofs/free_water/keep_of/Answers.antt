@@ -8,7 +8,6 @@ use Rattle.curve.specs.Capacity.{rise}
 use Rattle.curve.proofs.capacity.HeldLaws.{rise_le}
 use Rattle.subbasin.specs.declared.record.Parameters.{Parameters}
 use Rattle.subbasin.specs.FreeWater.{ms, level, keep}
-use borrow.Author.Rules.{rules}
 use Rattle.subbasin.proofs.free_water.keep_of.Goals as goal
 
 module _ (p : Parameters) (g pe r : ℕ) {top : ℕ} (risen : top ≡ rise p.sm (ms p) p.xn (level p g pe r) pe) where

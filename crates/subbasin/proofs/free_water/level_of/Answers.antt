@@ -1,7 +1,6 @@
 -- `subbasin::free_water::level_of` meets its contract. Assumes nothing.
 use native.Mathlib.Nat.{mul-le-mul, le_trans}
 use native.Mathlib.Omega.{arith}
-use borrow.Author.Rules.{rules}
 use Rattle.subbasin.specs.FreeWater.{level}
 use Rattle.subbasin.proofs.free_water.level_of.Goals as goal
 

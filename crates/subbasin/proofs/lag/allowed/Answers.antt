@@ -2,7 +2,6 @@
 use mathlib.Core.Path.{◌≡◌, sym, ◌∙◌}
 use mathlib.Core.Bool.{Bool, true, false}
 use lib.ListN.{drop}
-use borrow.Author.Rules.{rules}
 use Rattle.common.specs.Amounts.{all_up_to}
 use Rattle.subbasin.specs.declared.record.LagLine.{LagLine}
 use Rattle.subbasin.specs.Lag.{in_use, most_waiting, line_in}

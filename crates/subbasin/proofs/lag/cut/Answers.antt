@@ -6,7 +6,7 @@ use native.Mathlib.Omega.{arith}
 use lib.ListN.{length, get_or, take, replicate, length-append, length-replicate, get_or-append, get_or-replicate}
 use lib.Seq.{length-take-le, get_or-append-add, get_or-take, ext_get_or}
 use Rattle.common.specs.Loops.{table}
-use Rattle.common.proofs.Loops.{Filling, fill_begin, fill_turn, fill_end, table_length, table_in, table_past}
+use Rattle.common.proofs.Loops.{fill_begin, fill_turn, fill_end, table_length, table_in, table_past}
 use Rattle.subbasin.proofs.lag.cut.Goals as goal
 
 -- the first `from` of the amounts, and zeros: as a table

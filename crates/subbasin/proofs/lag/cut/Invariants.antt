@@ -1,13 +1,8 @@
 -- `subbasin::lag::cut` meets its contract: its loop fills a line of zeros. Assumes nothing.
-use mathlib.Core.Path.{◌≡◌, refl, sym, ap, ◌∙◌}
-use mathlib.Core.List.{List, ◌++◌}
-use Prim.Native.Nat.{ℕ, ◌+◌, ◌-◌, ◌≤◌, ◌<◌}
-use native.Mathlib.Decide.{dec_lt}
-use native.Mathlib.Omega.{arith}
-use lib.ListN.{length, get_or, take, replicate, length-append, length-replicate, get_or-append, get_or-replicate}
-use lib.Seq.{length-take-le, get_or-append-add, get_or-take, ext_get_or}
-use Rattle.common.specs.Loops.{table}
-use Rattle.common.proofs.Loops.{Filling, fill_begin, fill_turn, fill_end, table_length, table_in, table_past}
+use mathlib.Core.Path.{◌≡◌}
+use Prim.Native.Nat.{◌-◌, ◌≤◌}
+use lib.ListN.{length, get_or, replicate}
+use Rattle.common.proofs.Loops.{Filling}
 use Rattle.subbasin.proofs.lag.cut.Given as goal
 
 abbrev pub invariant-loop-i : goal.invariant-loop-i

@@ -4,7 +4,6 @@ use mathlib.Core.List.{List}
 use Prim.Native.Nat.{ℕ}
 use Rattle.subbasin.specs.declared.record.LagLine.{LagLine}
 use Rattle.subbasin.specs.Lag.{waiting_after, entered}
-use borrow.Author.Rules.{rules}
 use Rattle.subbasin.proofs.lag.enter.Goals as goal
 
 made : (line : LagLine) (t : ℕ) {waits : List ℕ} → waits ≡ waiting_after line t → ◌≡◌ {A = LagLine} (record { lag = line.lag; waiting = waits }) (entered line t)

@@ -7,7 +7,6 @@ use lib.ListN.{get_or}
 use Rattle.subbasin.specs.declared.record.LagLine.{LagLine}
 use Rattle.subbasin.specs.Lag.{in_use, leaving, Lagged}
 use Rattle.subbasin.proofs.lag.LagLaws.{leaves_after_lag}
-use borrow.Author.Rules.{rules}
 use Rattle.subbasin.proofs.lag.leave.Goals as goal
 
 module _ (line : LagLine) (t : ℕ) {lag : ℕ} (l : lag ≡ in_use line) where

@@ -6,7 +6,6 @@ use native.Mathlib.Omega.{arith}
 use lib.ListN.{length, take, replicate}
 use lib.Seq.{take-take}
 use Rattle.common.proofs.amounts.AmountLaws.{listed, listed_take}
-use borrow.Author.Rules.{rules}
 use Rattle.subbasin.proofs.lag.shift.Goals as goal
 
 shifted : (w : List ℕ) (t lag : ℕ) {r : List ℕ} → length w ≡ 15 → lag ≤ 15 → r ≡ take lag (t ∷ listed w 0 14) ++ replicate (15 - lag) 0

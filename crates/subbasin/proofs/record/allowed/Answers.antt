@@ -1,7 +1,6 @@
 -- `subbasin::record::allowed` meets its contract. Assumes nothing.
 use mathlib.Core.Path.{◌∙◌}
 use native.Mathlib.Omega.{arith}
-use borrow.Author.Rules.{rules}
 use Rattle.subbasin.proofs.record.RecordLaws.{words_fail, channel_fails, only_line}
 use Rattle.subbasin.proofs.record.allowed.Goals as goal
 

@@ -1,6 +1,5 @@
 -- `subbasin::record::is_blank` meets its contract. Assumes nothing.
 use mathlib.Core.Path.{◌∙◌}
-use borrow.Author.Rules.{rules}
 use Rattle.subbasin.proofs.record.RecordLaws.{some_waits, some_channel, only_words}
 use Rattle.subbasin.proofs.record.is_blank.Goals as goal
 

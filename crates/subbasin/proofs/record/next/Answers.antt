@@ -1,6 +1,5 @@
 -- `subbasin::record::next` meets its contract. Assumes nothing.
 use native.Mathlib.Omega.{arith}
-use borrow.Author.Rules.{rules}
 use Rattle.subbasin.proofs.record.RecordLaws.{further_more, further_not}
 use Rattle.subbasin.proofs.record.next.Goals as goal
 

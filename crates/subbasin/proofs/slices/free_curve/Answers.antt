@@ -1,5 +1,4 @@
 -- `subbasin::slices::free_curve` meets its contract. Assumes nothing.
-use borrow.Author.Rules.{rules}
 use Rattle.subbasin.specs.Workers.{free_curve}
 use Rattle.subbasin.proofs.slices.CurveLaws.{curve_is}
 use Rattle.subbasin.proofs.slices.free_curve.Goals as goal

@@ -1,6 +1,5 @@
 -- `subbasin::slices::raise` meets its contract: both calls of the curve are inside its limits. Assumes nothing.
 use native.Mathlib.Omega.{arith}
-use borrow.Author.Rules.{rules}
 use Rattle.curve.proofs.capacity.CallLaws.{curve_limits, from_le, risen}
 use Rattle.subbasin.proofs.slices.raise.Goals as goal
 

@@ -1,5 +1,4 @@
 -- `subbasin::slices::soil_curve` meets its contract. Assumes nothing.
-use borrow.Author.Rules.{rules}
 use Rattle.subbasin.specs.Workers.{soil_curve}
 use Rattle.subbasin.proofs.slices.CurveLaws.{curve_is}
 use Rattle.subbasin.proofs.slices.soil_curve.Goals as goal

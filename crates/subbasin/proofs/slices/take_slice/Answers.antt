@@ -12,7 +12,6 @@ use Rattle.subbasin.specs.Slices.{added, after_slice}
 use Rattle.subbasin.proofs.soil.SoilLaws.{runs}
 use Rattle.subbasin.proofs.free_water.FreeWaterLaws.{keep_none, Keeps, keeps}
 use Rattle.subbasin.proofs.slices.CurveLaws.{soil_asks, free_asks, risen_at}
-use borrow.Author.Rules.{rules}
 use Rattle.subbasin.proofs.slices.take_slice.Goals as goal
 
 module _ (p : Parameters) (pe : ℕ) (s : Sliced) (soil : SoilIn p) (room : RoomFor p pe s) {ro : Runoff} (ro-is : ro ≡ runoff p s.layers pe) where
@@ -55,15 +54,14 @@ raise-top-requires c =
     free_asks _ _ _ _ c.requires.1 (omega (arith, c.requires.4.runoff_most)) c.requires.3 c.level_of.ensures
 
 pub keep_of-requires : goal.keep_of-requires
-keep_of-requires c =
-    (
-      c.requires.1,
-      c.requires.4.kept_most,
-      omega (arith, c.if-ro-eq0.false),
-      omega (arith, runoff_le _ _ _ c.requires.0 c.requires.4 c.run_off-ro.ensures),
-      omega (arith, c.requires.4.runoff_most),
-      risen_at _ c.requires.3 c.level_of.ensures c.raise-top.ensures,
-    )
+keep_of-requires c = (
+  c.requires.1,
+  c.requires.4.kept_most,
+  omega (arith, c.if-ro-eq0.false),
+  omega (arith, runoff_le _ _ _ c.requires.0 c.requires.4 c.run_off-ro.ensures),
+  omega (arith, c.requires.4.runoff_most),
+  risen_at _ c.requires.3 c.level_of.ensures c.raise-top.ensures,
+)
 
 pub add-requires-2 : goal.add-requires-2
 add-requires-2 c =

@@ -1,14 +1,13 @@
 use mathlib.Core.Path.{◌≡◌, sym, ap, ◌∙◌}
 use Prim.Native.Nat.{ℕ, ◌+◌, ◌-◌, ◌*◌, ◌/◌, ◌≤◌, ◌<◌, min}
 use native.Mathlib.Omega.{arith}
-use Rattle.common.proofs.Loops.{Carrying, carry_begin, carry_turn, carry_end}
+use Rattle.common.proofs.Loops.{carry_begin, carry_turn, carry_end}
 use Rattle.subbasin.specs.declared.record.Parameters.{Parameters}
 use Rattle.subbasin.specs.declared.soil.Layers.{Layers}
 use Rattle.subbasin.specs.declared.slices.Sliced.{Sliced}
 use Rattle.subbasin.specs.Workers.{SoilIn, LayersIn, FreeIn, RoomFor}
 use Rattle.subbasin.specs.Slices.{most_slice, slices, slice, no_slice, after_slice, sliced}
 use Rattle.subbasin.proofs.slices.SlicesLaws.{Falls, falls, below, below_more, slice_some, sliced_none}
-use borrow.Author.Rules.{rules}
 use Rattle.subbasin.proofs.slices.take_slices.Invariants.{Slicing}
 use Rattle.subbasin.proofs.slices.take_slices.Goals as goal
 

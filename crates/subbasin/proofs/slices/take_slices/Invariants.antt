@@ -1,15 +1,9 @@
 -- `subbasin::slices::take_slices` meets its contract: what the slices gave is carried from turn to turn. Assumes nothing.
-use mathlib.Core.Path.{◌≡◌, sym, ap, ◌∙◌}
-use Prim.Native.Nat.{ℕ, ◌+◌, ◌-◌, ◌*◌, ◌/◌, ◌≤◌, ◌<◌, min}
-use native.Mathlib.Omega.{arith}
-use Rattle.common.proofs.Loops.{Carrying, carry_begin, carry_turn, carry_end}
+use Prim.Native.Nat.{ℕ, ◌-◌}
+use Rattle.common.proofs.Loops.{Carrying}
 use Rattle.subbasin.specs.declared.record.Parameters.{Parameters}
-use Rattle.subbasin.specs.declared.soil.Layers.{Layers}
 use Rattle.subbasin.specs.declared.slices.Sliced.{Sliced}
-use Rattle.subbasin.specs.Workers.{SoilIn, LayersIn, FreeIn, RoomFor}
-use Rattle.subbasin.specs.Slices.{most_slice, slices, slice, no_slice, after_slice, sliced}
-use Rattle.subbasin.proofs.slices.SlicesLaws.{Falls, falls, below, below_more, slice_some, sliced_none}
-use borrow.Author.Rules.{rules}
+use Rattle.subbasin.specs.Slices.{slices, slice, after_slice}
 use Rattle.subbasin.proofs.slices.take_slices.Given as goal
 
 abbrev pub Slicing : Parameters → ℕ → Sliced → ℕ → Sliced → Type 0

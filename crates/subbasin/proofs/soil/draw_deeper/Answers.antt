@@ -9,7 +9,6 @@ use Rattle.subbasin.specs.declared.record.Parameters.{Parameters}
 use Rattle.subbasin.specs.declared.soil.Layers.{Layers}
 use Rattle.subbasin.specs.declared.soil.Evaporated.{Evaporated}
 use Rattle.subbasin.specs.Soil.{deeper, fallen}
-use borrow.Author.Rules.{rules}
 use Rattle.subbasin.proofs.soil.draw_deeper.Goals as goal
 
 module _ (p : Parameters) (w : Layers) (rain u d : ℕ) {r : Evaporated} where

@@ -6,7 +6,6 @@ use Rattle.subbasin.specs.declared.record.Parameters.{Parameters}
 use Rattle.subbasin.specs.declared.soil.Layers.{Layers}
 use Rattle.subbasin.specs.declared.soil.Evaporated.{Evaporated}
 use Rattle.subbasin.specs.Soil.{deeper, evaporated}
-use borrow.Author.Rules.{rules}
 use Rattle.subbasin.proofs.soil.evaporate.Goals as goal
 
 short : (p : Parameters) (w : Layers) (rain e : ℕ) {u : ℕ} {r : Evaporated} → rain < e → u ≡ min w.wu (e - rain) → r ≡ deeper p w rain u (e - rain - u)

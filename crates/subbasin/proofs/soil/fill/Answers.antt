@@ -4,7 +4,6 @@ use Prim.Native.Nat.{ℕ, ◌+◌, ◌-◌, min}
 use Rattle.subbasin.specs.declared.record.Parameters.{Parameters}
 use Rattle.subbasin.specs.declared.soil.Layers.{Layers}
 use Rattle.subbasin.specs.Soil.{refilled}
-use borrow.Author.Rules.{rules}
 use Rattle.subbasin.proofs.soil.fill.Goals as goal
 
 layered : (p : Parameters) (w : Layers) (gained : ℕ) {u l : ℕ} → u ≡ min gained (p.um - w.wu) → l ≡ min (gained - u) (p.lm - w.wl)

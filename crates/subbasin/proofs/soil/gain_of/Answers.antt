@@ -9,7 +9,6 @@ use Rattle.subbasin.specs.declared.record.Parameters.{Parameters}
 use Rattle.subbasin.specs.Workers.{SoilIn}
 use Rattle.subbasin.specs.Soil.{wm, mm, rb, gain}
 use Rattle.subbasin.proofs.soil.SoilLaws.{impervious_le, gain_fits}
-use borrow.Author.Rules.{rules}
 use Rattle.subbasin.proofs.soil.gain_of.Goals as goal
 
 module _ (p : Parameters) (w pe : ℕ) {top : ℕ} (soil : SoilIn p) (fits : w ≤ wm p) (some : 0 < pe) (risen : top ≡ rise (wm p) (mm p) p.bn w pe) where

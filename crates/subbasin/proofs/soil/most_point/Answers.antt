@@ -6,7 +6,6 @@ use native.Mathlib.Omega.{arith}
 use Rattle.subbasin.specs.declared.record.Parameters.{Parameters}
 use Rattle.subbasin.specs.Workers.{SoilIn}
 use Rattle.subbasin.specs.Soil.{wm, mm}
-use borrow.Author.Rules.{rules}
 use Rattle.subbasin.proofs.soil.most_point.Goals as goal
 
 product_le : (p : Parameters) → SoilIn p → wm p * p.bn ≤ 500000 * 32

@@ -11,7 +11,6 @@ use Rattle.subbasin.specs.declared.soil.Runoff.{Runoff}
 use Rattle.subbasin.specs.Workers.{SoilIn, LayersIn}
 use Rattle.subbasin.specs.Soil.{tension, rb, gain, refilled, runoff}
 use Rattle.subbasin.proofs.soil.SoilLaws.{Gains, impervious_le, gain_in}
-use borrow.Author.Rules.{rules}
 use Rattle.subbasin.proofs.soil.run_off.Goals as goal
 
 module _ (p : Parameters) (w : Layers) (pe : ℕ) {gained : ℕ} (soil : SoilIn p) (fits : LayersIn p w) (some : 0 < pe)

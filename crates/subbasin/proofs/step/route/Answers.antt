@@ -18,7 +18,6 @@ use Rattle.subbasin.specs.Step.{slow_store, let_go, total, gathered, with_draine
 use Rattle.common.proofs.amounts.AmountLaws.{UpTo, up_to_at}
 use Rattle.subbasin.proofs.record.RecordLaws.{RecordIn, record_limits}
 use Rattle.subbasin.proofs.step.StepLaws.{total_fits}
-use borrow.Author.Rules.{rules}
 use Rattle.subbasin.proofs.step.route.Goals as goal
 
 -- the words that the way reads
@@ -91,22 +90,22 @@ slow-requires-2 c = (route_in _ (record_limits _ _ c.requires.0)).cg_in
 pub overflow_add-t-2 : goal.overflow_add-t-2
 overflow_add-t-2 c =
     let h =
-      sums_fit c.args.s c.args.sl c.args.dr (record_limits _ _ c.requires.0) c.requires.1 c.requires.2
-      c.slow.ensures c.take-interflow.ensures c.slow-2.ensures c.take-ground.ensures
+    sums_fit c.args.s c.args.sl c.args.dr (record_limits _ _ c.requires.0) c.requires.1 c.requires.2
+    c.slow.ensures c.take-interflow.ensures c.slow-2.ensures c.take-ground.ensures
     in omega (arith, h)
 
 pub overflow_add-t-3 : goal.overflow_add-t-3
 overflow_add-t-3 c =
     let h =
-      sums_fit c.args.s c.args.sl c.args.dr (record_limits _ _ c.requires.0) c.requires.1 c.requires.2
-      c.slow.ensures c.take-interflow.ensures c.slow-2.ensures c.take-ground.ensures
+    sums_fit c.args.s c.args.sl c.args.dr (record_limits _ _ c.requires.0) c.requires.1 c.requires.2
+    c.slow.ensures c.take-interflow.ensures c.slow-2.ensures c.take-ground.ensures
     in omega (arith, h)
 
 pub overflow_mul-t : goal.overflow_mul-t
 overflow_mul-t c =
     let h =
-      t_fits c.args.s c.args.sl c.args.dr (record_limits _ _ c.requires.0) c.requires.1 c.requires.2
-      c.slow.ensures c.take-interflow.ensures c.slow-2.ensures c.take-ground.ensures
+    t_fits c.args.s c.args.sl c.args.dr (record_limits _ _ c.requires.0) c.requires.1 c.requires.2
+    c.slow.ensures c.take-interflow.ensures c.slow-2.ensures c.take-ground.ensures
     in omega (arith, h)
 
 pub slow-requires-3 : goal.slow-requires-3

@@ -1,6 +1,5 @@
 -- `subbasin::step::step` meets its contract. Assumes nothing.
 use mathlib.Core.Path.{◌∙◌}
-use borrow.Author.Rules.{rules}
 use Rattle.subbasin.proofs.step.CallLaws.{call_whole}
 use Rattle.subbasin.proofs.step.step.Goals as goal
 

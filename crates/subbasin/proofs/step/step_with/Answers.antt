@@ -6,7 +6,6 @@ use Rattle.subbasin.specs.declared.record.SubBasin.{SubBasin}
 use Rattle.subbasin.specs.Record.{record_in}
 use Rattle.subbasin.proofs.record.RecordLaws.{RecordIn, record_in_lem, record_limits}
 use Rattle.subbasin.proofs.step.CallLaws.{step_accepts, step_refuses}
-use borrow.Author.Rules.{rules}
 use Rattle.subbasin.proofs.step.step_with.Goals as goal
 
 outside : (s : SubBasin) → record_in s.fixed.reach s ≡ false → RecordIn s.fixed.reach s → ⊥

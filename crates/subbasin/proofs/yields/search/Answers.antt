@@ -3,10 +3,9 @@ use mathlib.Core.Bool.{true, false}
 use Prim.Native.Nat.{ℕ, ◌+◌, ◌-◌, ◌≤◌, ◌<◌}
 use native.Mathlib.Omega.{arith}
 use lib.Dec.{ltb}
-use borrow.Author.Rules.{rules}
 use borrow.Author.Tests.{lt-ltb, ltb-true}
 use Rattle.common.specs.Loops.{run}
-use Rattle.common.proofs.Loops.{Carrying, carry_begin, carry_turn, Trying, try_begin, try_turn, try_end, every_at}
+use Rattle.common.proofs.Loops.{carry_begin, carry_turn, try_begin, try_turn, try_end, every_at}
 use Rattle.subbasin.specs.declared.record.Parameters.{Parameters}
 use Rattle.subbasin.specs.declared.walk.Walk.{Walk}
 use Rattle.subbasin.specs.Soil.{wm}
@@ -63,13 +62,12 @@ pub loop-k-init : goal.loop-k-init
 loop-k-init c = begins _ _ _ _ _ (omega arith)
 
 pub go_on-walk-requires : goal.go_on-walk-requires
-go_on-walk-requires c =
-    (
-      c.requires.0,
-      c.soil_curve-soil.ensures,
-      whole_in _ _ _ _ _ c.requires.0 c.requires.1 c.begin-walk.ensures c.loop-k.invariant,
-      omega (arith, c.loop-k-test.true),
-    )
+go_on-walk-requires c = (
+  c.requires.0,
+  c.soil_curve-soil.ensures,
+  whole_in _ _ _ _ _ c.requires.0 c.requires.1 c.begin-walk.ensures c.loop-k.invariant,
+  omega (arith, c.loop-k-test.true),
+)
 
 pub overflow_add-walk : goal.overflow_add-walk
 overflow_add-walk c =

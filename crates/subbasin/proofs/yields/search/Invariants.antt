@@ -1,20 +1,10 @@
 -- `subbasin::yields::search` meets its contract: the walk is carried from rain to rain, and none before did. Assumes nothing.
-use mathlib.Core.Path.{◌≡◌, sym, ap, ◌∙◌}
-use mathlib.Core.Bool.{true, false}
-use Prim.Native.Nat.{ℕ, ◌+◌, ◌-◌, ◌≤◌, ◌<◌}
-use native.Mathlib.Omega.{arith}
+use Prim.Native.Nat.{ℕ, ◌-◌}
 use lib.Dec.{ltb}
-use borrow.Author.Rules.{rules}
-use borrow.Author.Tests.{lt-ltb, ltb-true}
-use Rattle.common.specs.Loops.{run}
-use Rattle.common.proofs.Loops.{Carrying, carry_begin, carry_turn, Trying, try_begin, try_turn, try_end, every_at}
+use Rattle.common.proofs.Loops.{Carrying, Trying}
 use Rattle.subbasin.specs.declared.record.Parameters.{Parameters}
 use Rattle.subbasin.specs.declared.walk.Walk.{Walk}
-use Rattle.subbasin.specs.Soil.{wm}
-use Rattle.subbasin.specs.Yields.{Answers}
-use Rattle.subbasin.specs.Workers.{SoilIn, unwalked, walk_at, walked_to, net_rain, unsoaked}
-use Rattle.subbasin.proofs.walk.WalkLaws.{walked, walked_at, walked_in, walk_most}
-use Rattle.subbasin.proofs.yields.YieldsLaws.{found, none_found}
+use Rattle.subbasin.specs.Workers.{walked_to, net_rain, unsoaked}
 use Rattle.subbasin.proofs.yields.search.Given as goal
 
 -- the walk has come to a rain, and no rain before it does

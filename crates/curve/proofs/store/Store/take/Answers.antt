@@ -1,7 +1,6 @@
 -- `curve::store::Store::take` meets its contract: each limit is tested, and the rest is `outflow_of`. Assumes nothing.
 use mathlib.Core.Path.{sym, ◌∙◌}
 use native.Mathlib.Omega.{arith}
-use borrow.Author.Rules.{rules}
 use Rattle.curve.specs.Store.{content}
 use Rattle.curve.proofs.store.StoreLaws.{store_accepts, store_refuses}
 use Rattle.curve.proofs.store.Store.take.Goals as goal
