@@ -1,6 +1,6 @@
 //! A library to preload: calls of the program that fail or are cut short, as the environment asks. FAULT_READS and FAULT_WRITES (of
 //! standard output) have a word for each call in turn: `-` as the system does it, `s` at most 7 bytes of it, or the number of an
-//! error. FAULT_CLOSE is the error of closing standard output.
+//! error. FAULT_STORE is the error of storing a file.
 
 use std::env;
 use std::ffi::{c_int, c_long};
@@ -13,7 +13,7 @@ extern "C" {
 
 const READ: c_long = 0;
 const WRITE: c_long = 1;
-const CLOSE: c_long = 3;
+const FSYNC: c_long = 74;
 const STANDARD_OUTPUT: c_int = 1;
 
 static READS: AtomicUsize = AtomicUsize::new(0);
@@ -52,9 +52,9 @@ pub unsafe extern "C" fn write(fd: c_int, bytes: *mut u8, count: usize) -> isize
 }
 
 #[no_mangle]
-pub unsafe extern "C" fn close(fd: c_int) -> c_int {
-    match env::var("FAULT_CLOSE") {
-        Ok(error) if fd == STANDARD_OUTPUT => fail(&error) as c_int,
-        _ => syscall(CLOSE, fd) as c_int,
+pub unsafe extern "C" fn fsync(fd: c_int) -> c_int {
+    match env::var("FAULT_STORE") {
+        Ok(error) => fail(&error) as c_int,
+        _ => syscall(FSYNC, fd) as c_int,
     }
 }

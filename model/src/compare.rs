@@ -59,15 +59,9 @@ fn expected(folder: &Path) -> io::Result<Left> {
     Ok(Left { printed, said, status: ended.status.to_string() })
 }
 
-/// The program writes its status to descriptor 3 where it has an argument.
 fn ran(account: &Path, folder: &Path) -> io::Result<Left> {
-    let mut command = Command::new("sh");
-    command.args(["-c", "exec \"$0\" status 3> status"]).arg(account).current_dir(folder);
-    let ran = command.stdin(Stdio::null()).output()?;
-    let status = match ran.status.success() {
-        true => fs::read_to_string(folder.join("status"))?,
-        false => ran.status.to_string(),
-    };
+    let ran = Command::new(account).current_dir(folder).stdin(Stdio::null()).output()?;
+    let status = ran.status.code().map_or(ran.status.to_string(), |code| code.to_string());
     Ok(Left { printed: ran.stdout, said: ran.stderr, status })
 }
 

@@ -1,22 +1,31 @@
-// The program: it reads basin.bin and forcing.bin in the current folder.
+// The program: it reads basin.bin and forcing.bin in the current folder, and its exit status says how that ended.
 #![tactic(auto)]
 
-use libc::STDOUT_FILENO;
-use program::FAILED;
+use program::{FAILED, say};
+use std::fs::{OpenFile, OpenOptions};
+use std::process::ExitCode;
+use std::rt::Files;
+use std::{fs, io};
 
-// Where the status goes, as a program has no exit status.
-const STATUS_FILENO: i32 = 3;
-
-fn main() {
-    let mut ended = program::account(b"basin.bin", b"forcing.bin");
-    // Some systems tell of a failed write only when the file is closed.
-    if libc::close(STDOUT_FILENO) < 0 {
-        os::fail(b"standard output: could not be closed");
+fn main(rt: HostRuntime) -> ExitCode {
+    let mut said = rt.stderr();
+    let mut ended = program::account(&rt, &mut rt.stdout(), &mut said, "basin.bin", "forcing.bin");
+    // Some systems tell of a failed write only when the file is stored.
+    if let Err(error) = store(&rt, "/dev/stdout") {
+        say::failed(&mut said, b"standard output: could not be stored", error);
         ended = FAILED;
     }
-    // ./account asks for it by an argument.
-    if os::arg_count() > 1 {
-        let digits = [b'0' + (ended % 10) as u8];
-        io::write_all(STATUS_FILENO, &digits);
+    ExitCode::from(ended as u8)
+}
+
+// Stores what was written to a file; to a pipe, a terminal or a device there is nothing to store.
+fn store(files: &impl Files, path: &str) -> io::Result<()> {
+    let is_file = fs::metadata(files, path).is_ok_and(|found| found.is_file());
+    if !is_file {
+        return Ok(());
+    }
+    match OpenOptions::new().append(true).open(files, path) {
+        Ok(file) => file.sync_all(),
+        Err(_) => Ok(()),
     }
 }

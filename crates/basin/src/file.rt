@@ -24,7 +24,7 @@ const REACH_WORDS: u64 = reach::WORDS;
 const LEAST_BYTES: u64 = 8;
 
 // What a load hands back: number and place are 0 where the file is accepted.
-#[derive(Drop)]
+#[derive(Clone, Copy)]
 pub struct Loaded {
     pub number: u64,
     pub place: u64,

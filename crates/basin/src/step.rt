@@ -16,7 +16,7 @@ use subbasin::record::SubBasin;
 use subbasin::{content, step};
 
 // What a step reports: rain, evapotranspiration, outlet volume and content in m³, and how many lines were estimated.
-#[derive(Drop)]
+#[derive(Clone, Copy)]
 pub struct Report {
     pub rain: u64,
     pub evapotranspiration: u64,
@@ -35,7 +35,7 @@ pub const ZEROS: Report = Report {
 };
 
 // What a step hands back: number and place are 0 where it is accepted.
-#[derive(Drop)]
+#[derive(Clone, Copy)]
 pub struct Outcome {
     pub number: u64,
     pub place: u64,

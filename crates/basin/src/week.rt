@@ -4,7 +4,7 @@ use crate::step::Report;
 
 // What a week hands back: the basin reached, how many steps were accepted, their reports together (sums, and the last one's content),
 // and number and place of the refused one, zeros where there is none.
-#[derive(Drop)]
+#[derive(Clone, Copy)]
 pub struct Ran {
     pub number: u64,
     pub place: u64,

@@ -6,7 +6,7 @@ use forcing::list::Line;
 use testing::chance::next;
 
 // What a step takes.
-#[derive(Drop)]
+#[derive(Clone, Copy)]
 pub struct Call {
     pub basin: Basin,
     pub lines: [Line; 32],

@@ -4,39 +4,40 @@ use crate::series::Ran;
 use basin::state::Basin;
 use basin::step;
 use basin_testing::{places, weather};
+use std::io;
 use testing::lines;
 use testing::spots::Part;
 
-pub fn print(basin: Basin, x: u64) {
-    let s = each(Ran { basin, x, h: 0 }, places::PLACES);
-    lines::line(b"limits", &[s.h]);
+pub fn print(rt: &impl Print, basin: Basin, x: u64) -> io::Result<()> {
+    let s = each(rt, Ran { basin, x, h: 0 }, places::PLACES)?;
+    lines::line(rt, "limits", &[s.h])
 }
 
 // Places 0..count.
-fn each(start: Ran, count: usize) -> Ran {
+fn each(rt: &impl Print, start: Ran, count: usize) -> io::Result<Ran> {
     let mut s = start;
     for place in 0..count {
-        s = line(s, place);
+        s = line(rt, s, place)?;
     }
-    s
+    Ok(s)
 }
 
 // The place and the refusal number of each of the five are printed for N and M, for every tenth record and for every tenth reach.
-fn line(s: Ran, place: usize) -> Ran {
+fn line(rt: &impl Print, s: Ran, place: usize) -> io::Result<Ran> {
     let shown = is_shown(place);
     if shown {
-        lines::word(b"place");
-        lines::number(place as u64);
+        lines::word(rt, "place")?;
+        lines::number(rt, place as u64)?;
     }
-    let s1 = told(s, place, 0, shown);
-    let s2 = told(s1, place, 1, shown);
-    let s3 = told(s2, place, 2, shown);
-    let s4 = told(s3, place, 3, shown);
-    let s5 = told(s4, place, 4, shown);
+    let s1 = told(rt, s, place, 0, shown)?;
+    let s2 = told(rt, s1, place, 1, shown)?;
+    let s3 = told(rt, s2, place, 2, shown)?;
+    let s4 = told(rt, s3, place, 3, shown)?;
+    let s5 = told(rt, s4, place, 4, shown)?;
     if shown {
-        lines::end();
+        lines::end(rt)?;
     }
-    s5
+    Ok(s5)
 }
 
 fn is_shown(place: usize) -> bool {
@@ -49,7 +50,7 @@ fn is_shown(place: usize) -> bool {
     }
 }
 
-fn told(s: Ran, place: usize, which: u64, shown: bool) -> Ran {
+fn told(rt: &impl Print, s: Ran, place: usize, which: u64, shown: bool) -> io::Result<Ran> {
     let b = s.basin;
     let sky = weather::drawn(which % 5 * 32, s.x);
     let lines = sky.lines;
@@ -59,11 +60,11 @@ fn told(s: Ran, place: usize, which: u64, shown: bool) -> Ran {
         b.n,
     );
     if shown {
-        lines::number(given.number);
+        lines::number(rt, given.number)?;
     }
-    Ran {
+    Ok(Ran {
         basin: b,
         x: sky.x,
         h: series::fold(s.h, given),
-    }
+    })
 }

@@ -10,33 +10,35 @@ mod series;
 use basin::state::Basin;
 use basin::step;
 use forcing::list::{Line, Reading};
+use std::io;
 use testing::choices::Choice;
 use testing::drafts;
 
-fn main() {
-    case_a();
-    limits_after_steps();
-    plan::rows();
+fn main(rt: HostRuntime) -> io::Result<()> {
+    case_a(&rt)?;
+    limits_after_steps(&rt)?;
+    plan::rows(&rt)
 }
 
-fn case_a() {
+fn case_a(rt: &impl Print) -> io::Result<()> {
     let start = series::started(drafts::chain(Choice::CaseA, 1, 0), 1);
-    let first = printed(1, start.basin, Reading::Measured(135.0), 0.0);
-    let second = printed(2, first, Reading::Missing, 0.0);
-    printed(3, second, Reading::Measured(0.0), 10.0);
+    let first = printed(rt, 1, start.basin, Reading::Measured(135.0), 0.0)?;
+    let second = printed(rt, 2, first, Reading::Missing, 0.0)?;
+    printed(rt, 3, second, Reading::Measured(0.0), 10.0)?;
+    Ok(())
 }
 
 // Three ordinary sub-basins and two reaches after 24 steps.
-fn limits_after_steps() {
+fn limits_after_steps(rt: &impl Print) -> io::Result<()> {
     let start = series::started(drafts::chain(Choice::Ordinary, 3, 2), 1);
-    let ran = series::run(start, 24);
-    limits::print(ran.basin, ran.x);
+    let ran = series::run(rt, start, 24)?;
+    limits::print(rt, ran.basin, ran.x)
 }
 
 // A step with one line, printed; hands back the basin after.
-fn printed(i: u64, b: Basin, rain: Reading, pan: f32) -> Basin {
+fn printed(rt: &impl Print, i: u64, b: Basin, rain: Reading, pan: f32) -> io::Result<Basin> {
     let line = Line { rain, pan };
     let given = step::step(b, [line; 32], 1);
-    series::print(i, given);
-    given.basin
+    series::print(rt, i, given)?;
+    Ok(given.basin)
 }

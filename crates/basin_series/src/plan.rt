@@ -2,6 +2,7 @@
 use crate::series;
 use crate::series::Ran;
 use basin_testing::{places, plans};
+use std::io;
 use testing::chance::Drawn;
 use testing::choices::Choice;
 use testing::drafts::{Plan, Shape};
@@ -12,14 +13,19 @@ const SIZES: [u64; 12] = [32, 31, 7, 5, 1, 0, 2, 1, 32, 0, 1, 31];
 
 // Series of every shape with every choice and every size, and then from brimming basins of every shape; the generator goes on from
 // series to series.
-pub fn rows() {
+pub fn rows(rt: &impl Print) -> io::Result<()> {
     let mut x = 1;
     for k in 0..128 {
-        x = if k < 120 { row(k, x) } else { brimming(k, x) };
+        x = if k < 120 {
+            row(rt, k, x)?
+        } else {
+            brimming(rt, k, x)?
+        };
     }
+    Ok(())
 }
 
-fn row(k: u64, x: u64) -> u64 {
+fn row(rt: &impl Print, k: u64, x: u64) -> io::Result<u64> {
     let size = (k / 20 % 6) as usize;
     let plan = Plan {
         choice: plans::choice(k / 4 % 5),
@@ -27,37 +33,37 @@ fn row(k: u64, x: u64) -> u64 {
         n: SIZES[2 * size],
         m: SIZES[2 * size + 1],
     };
-    let told = steps(plan, x, k % 24 == 0);
-    plans::shape_name(k % 4);
-    plans::choice_name(k / 4 % 5);
-    lines::row(&[plan.n, plan.m, told.h]);
-    lines::end();
-    told.x
+    let told = steps(rt, plan, x, k % 24 == 0)?;
+    plans::shape_name(rt, k % 4)?;
+    plans::choice_name(rt, k / 4 % 5)?;
+    lines::row(rt, &[plan.n, plan.m, told.h])?;
+    lines::end(rt)?;
+    Ok(told.x)
 }
 
 // The last basin is printed where asked for.
-fn steps(plan: Plan, x: u64, full: bool) -> Drawn {
-    let ran = series::run(series::started(plan, x), 320);
+fn steps(rt: &impl Print, plan: Plan, x: u64, full: bool) -> io::Result<Drawn> {
+    let ran = series::run(rt, series::started(plan, x), 320)?;
     if full {
-        places::print(ran.basin);
+        places::print(rt, ran.basin)?;
     }
-    Drawn { x: ran.x, h: ran.h }
+    Ok(Drawn { x: ran.x, h: ran.h })
 }
 
 // Where not all flows at once, the first step leaves stores above their limits, and the others are refused.
-fn brimming(k: u64, x: u64) -> u64 {
+fn brimming(rt: &impl Print, k: u64, x: u64) -> io::Result<u64> {
     let at_once = k / 4 % 2 == 0;
-    let told = brimming_steps(plans::shape(k % 4), x, at_once);
-    plans::shape_name(k % 4);
+    let told = brimming_steps(rt, plans::shape(k % 4), x, at_once)?;
+    plans::shape_name(rt, k % 4)?;
     if at_once {
-        lines::line(b" at once", &[told.h]);
+        lines::line(rt, " at once", &[told.h])?;
     } else {
-        lines::line(b" brimming", &[told.h]);
+        lines::line(rt, " brimming", &[told.h])?;
     }
-    told.x
+    Ok(told.x)
 }
 
-fn brimming_steps(shape: Shape, x: u64, at_once: bool) -> Drawn {
+fn brimming_steps(rt: &impl Print, shape: Shape, x: u64, at_once: bool) -> io::Result<Drawn> {
     let plan = Plan {
         choice: Choice::Most,
         shape,
@@ -70,6 +76,6 @@ fn brimming_steps(shape: Shape, x: u64, at_once: bool) -> Drawn {
         x: start.x,
         h: 0,
     };
-    let ran = series::run(brim, 80);
-    Drawn { x: ran.x, h: ran.h }
+    let ran = series::run(rt, brim, 80)?;
+    Ok(Drawn { x: ran.x, h: ran.h })
 }

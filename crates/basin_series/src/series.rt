@@ -6,11 +6,12 @@ use basin::step::Outcome;
 use basin_testing::checksum::fold_basin;
 use basin_testing::{files, weather};
 use forcing::list::Line;
+use std::io;
 use testing::drafts::Plan;
 use testing::{checksum, lines};
 
 // A series as far as it has come: the basin, the generator and the checksum.
-#[derive(Drop)]
+#[derive(Clone, Copy)]
 pub struct Ran {
     pub basin: Basin,
     pub x: u64,
@@ -27,32 +28,32 @@ pub fn started(plan: Plan, x: u64) -> Ran {
     }
 }
 
-pub fn run(start: Ran, count: u64) -> Ran {
+pub fn run(rt: &impl Print, start: Ran, count: u64) -> io::Result<Ran> {
     let mut s = start;
     for i in 0..count {
-        s = turn(s, i);
+        s = turn(rt, s, i)?;
     }
-    s
+    Ok(s)
 }
 
 // Every 16th step is astray, and every 72nd is printed.
-fn turn(s: Ran, i: u64) -> Ran {
+fn turn(rt: &impl Print, s: Ran, i: u64) -> io::Result<Ran> {
     let b = s.basin;
     let sky = weather::drawn(i, s.x);
     let lines = sky.lines;
     if i % 16 == 7 {
-        return astray(b, lines, sky.x, s.h);
+        return Ok(astray(b, lines, sky.x, s.h));
     }
     let given = step::step(b, lines, b.n);
     if i % 72 == 0 {
-        print(i, given);
+        print(rt, i, given)?;
     }
     let basin = given.basin;
-    Ran {
+    Ok(Ran {
         basin,
         x: sky.x,
         h: fold(s.h, given),
-    }
+    })
 }
 
 // The series goes on from the basin before.
@@ -76,12 +77,12 @@ pub fn fold(h: u64, given: Outcome) -> u64 {
 }
 
 // A step as the program prints it: document 01, "What the program prints".
-pub fn print(i: u64, given: Outcome) {
-    lines::first(i);
+pub fn print(rt: &impl Print, i: u64, given: Outcome) -> io::Result<()> {
+    lines::first(rt, i)?;
     if given.number == 0 {
-        lines::line(b" ok", &report_of(given));
+        lines::line(rt, " ok", &report_of(given))
     } else {
-        lines::line(b" refused", &[given.number, given.place]);
+        lines::line(rt, " refused", &[given.number, given.place])
     }
 }
 

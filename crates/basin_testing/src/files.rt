@@ -20,7 +20,7 @@ fn load_prefix(bytes: &[u8], size: usize) -> Loaded {
 }
 
 // A basin and the generator.
-#[derive(Drop)]
+#[derive(Clone, Copy)]
 pub struct Start {
     pub basin: Basin,
     pub x: u64,

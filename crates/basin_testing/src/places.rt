@@ -1,6 +1,7 @@
 // A basin as numbers by place: N, M, then each record's numbers, then c0, c1, next and content of each reach.
 use basin::reach::Reach;
 use basin::state::Basin;
+use std::io;
 use subbasin::record;
 use subbasin::record::{MOST_SLOW, SubBasin};
 use testing::ranges::Range;
@@ -51,16 +52,17 @@ pub fn at(b: Basin, place: usize) -> u64 {
 }
 
 // A basin in full.
-pub fn print(b: Basin) {
-    lines::word(b"basin");
-    numbers(b, PLACES);
-    lines::end();
+pub fn print(rt: &impl Print, b: Basin) -> io::Result<()> {
+    lines::word(rt, "basin")?;
+    numbers(rt, b, PLACES)?;
+    lines::end(rt)
 }
 
-fn numbers(b: Basin, count: usize) {
+fn numbers(rt: &impl Print, b: Basin, count: usize) -> io::Result<()> {
     for place in 0..count {
-        lines::number(at(b, place));
+        lines::number(rt, at(b, place))?;
     }
+    Ok(())
 }
 
 // The basin with v at a place.
@@ -157,7 +159,7 @@ fn raised(b: Basin, place: usize, at_once: bool) -> Basin {
     }
 }
 
-#[derive(Drop)]
+#[derive(Clone, Copy)]
 enum Kind {
     Amount,
     Recession,

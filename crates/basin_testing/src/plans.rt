@@ -1,4 +1,5 @@
 // Shapes and choices of words by number, and their names.
+use std::io;
 use testing::choices::Choice;
 use testing::drafts::Shape;
 use testing::lines;
@@ -22,21 +23,21 @@ pub fn choice(k: u64) -> Choice {
     }
 }
 
-pub fn shape_name(k: u64) {
+pub fn shape_name(rt: &impl Print, k: u64) -> io::Result<()> {
     match k {
-        0 => lines::word(b"chain"),
-        1 => lines::word(b"star"),
-        2 => lines::word(b"tree"),
-        _ => lines::word(b"any"),
+        0 => lines::word(rt, "chain"),
+        1 => lines::word(rt, "star"),
+        2 => lines::word(rt, "tree"),
+        _ => lines::word(rt, "any"),
     }
 }
 
-pub fn choice_name(k: u64) {
+pub fn choice_name(rt: &impl Print, k: u64) -> io::Result<()> {
     match k {
-        0 => lines::word(b" ordinary"),
-        1 => lines::word(b" least"),
-        2 => lines::word(b" most"),
-        3 => lines::word(b" ends"),
-        _ => lines::word(b" any"),
+        0 => lines::word(rt, " ordinary"),
+        1 => lines::word(rt, " least"),
+        2 => lines::word(rt, " most"),
+        3 => lines::word(rt, " ends"),
+        _ => lines::word(rt, " any"),
     }
 }

@@ -24,7 +24,7 @@ fn millimetres(depth: u64) -> f32 {
 }
 
 // 32 lines and the generator.
-#[derive(Drop)]
+#[derive(Clone, Copy)]
 pub struct Sky {
     pub lines: [Line; 32],
     pub x: u64,

@@ -13,7 +13,7 @@ use common::shares::ONE;
 pub type Roots = [u32; 1024];
 
 // What a call of the curve answers: number and place are 0 where it is accepted.
-#[derive(Drop)]
+#[derive(Clone, Copy)]
 pub struct Answer {
     pub number: u64,
     pub place: u64,

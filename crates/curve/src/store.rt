@@ -6,7 +6,7 @@ ghost use Rattle.curve.specs.Store.{outflow, most_inflow, most_content, kept, st
 use common::shares::ONE;
 
 // The shares a of the inflow and g of the content, in parts of 65,536; the content in µm or m³.
-#[derive(Drop)]
+#[derive(Clone, Copy)]
 pub struct Store {
     pub a: u64,
     pub g: u64,
@@ -14,7 +14,7 @@ pub struct Store {
 }
 
 // A store's answer: number and place are 0 where it is accepted.
-#[derive(Drop)]
+#[derive(Clone, Copy)]
 pub struct Released {
     pub number: u64,
     pub place: u64,

@@ -2,9 +2,10 @@
 use curve::capacity;
 use curve::capacity::Answer;
 use curve::store::Store;
+use std::io;
 use testing::{checksum, lines};
 
-#[derive(Drop)]
+#[derive(Clone, Copy)]
 pub enum Call {
     Root,
     RootByTable,
@@ -16,20 +17,20 @@ pub enum Call {
 }
 
 // A call's line: its name, its arguments, then every number of the answer.
-pub fn print(call: Call, v: [u64; 4]) {
-    name(call);
-    arguments(call, v);
+pub fn print(rt: &impl Print, call: Call, v: [u64; 4]) -> io::Result<()> {
+    name(rt, call)?;
+    arguments(rt, call, v)?;
     match call {
         Call::Store => {
             let row = released(v);
-            lines::row(&row);
+            lines::row(rt, &row)?;
         }
         _ => {
             let row = answered(call, v);
-            lines::row(&row);
+            lines::row(rt, &row)?;
         }
     }
-    lines::end();
+    lines::end(rt)
 }
 
 // Every number of the answer.
@@ -46,26 +47,26 @@ pub fn fold(h: u64, call: Call, v: [u64; 4]) -> u64 {
     }
 }
 
-pub fn name(call: Call) {
+pub fn name(rt: &impl Print, call: Call) -> io::Result<()> {
     match call {
-        Call::Root => lines::word(b"root"),
-        Call::RootByTable => lines::word(b"root_by_table"),
-        Call::Power => lines::word(b"power"),
-        Call::PowerByTable => lines::word(b"power_by_table"),
-        Call::Held => lines::word(b"held"),
-        Call::Ordinate => lines::word(b"ordinate"),
-        Call::Store => lines::word(b"store"),
+        Call::Root => lines::word(rt, "root"),
+        Call::RootByTable => lines::word(rt, "root_by_table"),
+        Call::Power => lines::word(rt, "power"),
+        Call::PowerByTable => lines::word(rt, "power_by_table"),
+        Call::Held => lines::word(rt, "held"),
+        Call::Ordinate => lines::word(rt, "ordinate"),
+        Call::Store => lines::word(rt, "store"),
     }
 }
 
-fn arguments(call: Call, v: [u64; 4]) {
+fn arguments(rt: &impl Print, call: Call, v: [u64; 4]) -> io::Result<()> {
     match call {
-        Call::Root | Call::RootByTable => lines::number(v[0]),
+        Call::Root | Call::RootByTable => lines::number(rt, v[0]),
         Call::Power | Call::PowerByTable => {
-            lines::number(v[0]);
-            lines::number(v[1]);
+            lines::number(rt, v[0])?;
+            lines::number(rt, v[1])
         }
-        _ => lines::row(&v),
+        _ => lines::row(rt, &v),
     }
 }
 

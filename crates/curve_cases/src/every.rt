@@ -2,47 +2,49 @@
 // checksum each. Then both Powers for every e, at t from 65,536 down by 127.
 use crate::calls;
 use crate::calls::Call;
+use std::io;
 use testing::lines;
 
-pub fn shares() {
-    every(Call::Root, 0);
-    every(Call::RootByTable, 0);
-    every(Call::Power, 15);
-    every(Call::Power, 16);
-    every(Call::Power, 17);
-    every(Call::Power, 24);
-    every(Call::Power, 31);
-    every(Call::PowerByTable, 31);
-    every(Call::Power, 32);
-    every(Call::Power, 33);
-    every(Call::Power, 40);
-    every(Call::Power, 47);
-    every(Call::Power, 48);
-    every(Call::Power, 49);
+pub fn shares(rt: &impl Print) -> io::Result<()> {
+    every(rt, Call::Root, 0)?;
+    every(rt, Call::RootByTable, 0)?;
+    every(rt, Call::Power, 15)?;
+    every(rt, Call::Power, 16)?;
+    every(rt, Call::Power, 17)?;
+    every(rt, Call::Power, 24)?;
+    every(rt, Call::Power, 31)?;
+    every(rt, Call::PowerByTable, 31)?;
+    every(rt, Call::Power, 32)?;
+    every(rt, Call::Power, 33)?;
+    every(rt, Call::Power, 40)?;
+    every(rt, Call::Power, 47)?;
+    every(rt, Call::Power, 48)?;
+    every(rt, Call::Power, 49)
 }
 
-fn every(call: Call, e: u64) {
-    lines::word(b"every ");
-    line(call, e, folded(call, e));
+fn every(rt: &impl Print, call: Call, e: u64) -> io::Result<()> {
+    lines::word(rt, "every ")?;
+    line(rt, call, e, folded(call, e))
 }
 
-pub fn exponents() {
+pub fn exponents(rt: &impl Print) -> io::Result<()> {
     for e in 15u64..50 {
-        spread(Call::Power, e);
-        spread(Call::PowerByTable, e);
+        spread(rt, Call::Power, e)?;
+        spread(rt, Call::PowerByTable, e)?;
     }
+    Ok(())
 }
 
-fn spread(call: Call, e: u64) {
-    lines::word(b"spread ");
-    line(call, e, folded_apart(call, e));
+fn spread(rt: &impl Print, call: Call, e: u64) -> io::Result<()> {
+    lines::word(rt, "spread ")?;
+    line(rt, call, e, folded_apart(call, e))
 }
 
-fn line(call: Call, e: u64, h: u64) {
-    calls::name(call);
-    lines::number(e);
-    lines::number(h);
-    lines::end();
+fn line(rt: &impl Print, call: Call, e: u64, h: u64) -> io::Result<()> {
+    calls::name(rt, call)?;
+    lines::number(rt, e)?;
+    lines::number(rt, h)?;
+    lines::end(rt)
 }
 
 fn folded(call: Call, e: u64) -> u64 {

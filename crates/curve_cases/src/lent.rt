@@ -4,30 +4,31 @@ use crate::calls::Call;
 use crate::random;
 use curve::capacity;
 use curve::capacity::Roots;
+use std::io;
 use testing::chance::Drawn;
 use testing::{checksum, lines};
 
-pub fn series() {
+pub fn series(rt: &impl Print) -> io::Result<()> {
     let roots = capacity::printed_roots();
-    line(b"printed", &roots);
+    line(rt, "printed", &roots)?;
     let wrong = off_by_one(roots);
-    line(b"off by one", &wrong);
+    line(rt, "off by one", &wrong)?;
     let zeros = [0u32; 1024];
-    line(b"zeros", &zeros);
+    line(rt, "zeros", &zeros)?;
     let ones = [1u32; 1024];
-    line(b"ones", &ones);
+    line(rt, "ones", &ones)?;
     let most = [8191u32; 1024];
-    line(b"8191", &most);
+    line(rt, "8191", &most)?;
     let far = [4294967295u32; 1024];
-    line(b"4294967295", &far);
+    line(rt, "4294967295", &far)
 }
 
-fn line(name: &[u8], roots: &Roots) {
-    lines::word(b"lent ");
-    lines::word(name);
-    lines::number(every_root(roots));
-    lines::number(folded(roots));
-    lines::end();
+fn line(rt: &impl Print, name: &str, roots: &Roots) -> io::Result<()> {
+    lines::word(rt, "lent ")?;
+    lines::word(rt, name)?;
+    lines::number(rt, every_root(roots))?;
+    lines::number(rt, folded(roots))?;
+    lines::end(rt)
 }
 
 // Each entry is one more or one less.

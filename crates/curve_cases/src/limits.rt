@@ -1,12 +1,14 @@
 // Both ends of every limit and one beyond, each with each, printed in full.
 use crate::calls;
 use crate::calls::Call;
+use std::io;
 
 // Cases 0..count of a call.
-pub fn cases(call: Call, count: u64) {
+pub fn cases(rt: &impl Print, call: Call, count: u64) -> io::Result<()> {
     for i in 0..count {
-        calls::print(call, case(call, i));
+        calls::print(rt, call, case(call, i))?;
     }
+    Ok(())
 }
 
 // Case i: each argument is chosen by a digit of i, the first by the lowest.
@@ -63,21 +65,21 @@ fn beyond(limit: u64) -> u64 {
 const FAR: u64 = 18446744073709551615;
 
 // Each argument in turn at the greatest u64.
-pub fn far() {
-    calls::print(Call::Root, [FAR, 0, 0, 0]);
-    calls::print(Call::RootByTable, [FAR, 0, 0, 0]);
-    calls::print(Call::Power, [FAR, 16, 0, 0]);
-    calls::print(Call::Power, [1, FAR, 0, 0]);
-    calls::print(Call::PowerByTable, [FAR, 16, 0, 0]);
-    calls::print(Call::PowerByTable, [1, FAR, 0, 0]);
-    far_of_four(Call::Held, 16);
-    far_of_four(Call::Ordinate, 16);
-    far_of_four(Call::Store, 1);
+pub fn far(rt: &impl Print) -> io::Result<()> {
+    calls::print(rt, Call::Root, [FAR, 0, 0, 0])?;
+    calls::print(rt, Call::RootByTable, [FAR, 0, 0, 0])?;
+    calls::print(rt, Call::Power, [FAR, 16, 0, 0])?;
+    calls::print(rt, Call::Power, [1, FAR, 0, 0])?;
+    calls::print(rt, Call::PowerByTable, [FAR, 16, 0, 0])?;
+    calls::print(rt, Call::PowerByTable, [1, FAR, 0, 0])?;
+    far_of_four(rt, Call::Held, 16)?;
+    far_of_four(rt, Call::Ordinate, 16)?;
+    far_of_four(rt, Call::Store, 1)
 }
 
-fn far_of_four(call: Call, third: u64) {
-    calls::print(call, [FAR, 1, third, 1]);
-    calls::print(call, [1, FAR, third, 1]);
-    calls::print(call, [1, 1, FAR, 1]);
-    calls::print(call, [1, 1, third, FAR]);
+fn far_of_four(rt: &impl Print, call: Call, third: u64) -> io::Result<()> {
+    calls::print(rt, call, [FAR, 1, third, 1])?;
+    calls::print(rt, call, [1, FAR, third, 1])?;
+    calls::print(rt, call, [1, 1, FAR, 1])?;
+    calls::print(rt, call, [1, 1, third, FAR])
 }

@@ -11,24 +11,25 @@ mod ordinates;
 mod random;
 
 use calls::Call;
+use std::io;
 
-fn main() {
-    examples::print();
-    every::shares();
-    every::exponents();
-    limits::cases(Call::Root, 4);
-    limits::cases(Call::RootByTable, 4);
-    limits::cases(Call::Power, 16);
-    limits::cases(Call::PowerByTable, 16);
-    limits::cases(Call::Held, 192);
-    limits::cases(Call::Ordinate, 192);
-    limits::cases(Call::Store, 256);
-    limits::far();
-    ordinates::print();
-    random::series(Call::Root);
-    random::series(Call::Power);
-    random::series(Call::Held);
-    random::series(Call::Ordinate);
-    random::series(Call::Store);
-    lent::series();
+fn main(rt: HostRuntime) -> io::Result<()> {
+    examples::print(&rt)?;
+    every::shares(&rt)?;
+    every::exponents(&rt)?;
+    limits::cases(&rt, Call::Root, 4)?;
+    limits::cases(&rt, Call::RootByTable, 4)?;
+    limits::cases(&rt, Call::Power, 16)?;
+    limits::cases(&rt, Call::PowerByTable, 16)?;
+    limits::cases(&rt, Call::Held, 192)?;
+    limits::cases(&rt, Call::Ordinate, 192)?;
+    limits::cases(&rt, Call::Store, 256)?;
+    limits::far(&rt)?;
+    ordinates::print(&rt)?;
+    random::series(&rt, Call::Root)?;
+    random::series(&rt, Call::Power)?;
+    random::series(&rt, Call::Held)?;
+    random::series(&rt, Call::Ordinate)?;
+    random::series(&rt, Call::Store)?;
+    lent::series(&rt)
 }

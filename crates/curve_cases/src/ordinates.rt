@@ -4,52 +4,55 @@ ghost use Rattle.std.specs.Prelude.{◌≤◌};
 
 use crate::calls;
 use crate::calls::Call;
+use std::io;
 use testing::lines;
 
-pub fn print() {
-    small_curves();
-    every_power();
-    three(500000, 1);
-    three(1, 2000000);
-    three(65535, 65537);
-    three(65537, 65535);
-    three(500000, 65536);
+pub fn print(rt: &impl Print) -> io::Result<()> {
+    small_curves(rt)?;
+    every_power(rt)?;
+    three(rt, 500000, 1)?;
+    three(rt, 1, 2000000)?;
+    three(rt, 65535, 65537)?;
+    three(rt, 65537, 65535)?;
+    three(rt, 500000, 65536)
 }
 
-fn small_curves() {
+fn small_curves(rt: &impl Print) -> io::Result<()> {
     for e in 16u64..49 {
-        small_line(e);
+        small_line(rt, e)?;
     }
+    Ok(())
 }
 
-fn small_line(e: u64) {
-    lines::word(b"small");
-    lines::number(e);
-    lines::number(small(e));
-    lines::end();
+fn small_line(rt: &impl Print, e: u64) -> io::Result<()> {
+    lines::word(rt, "small")?;
+    lines::number(rt, e)?;
+    lines::number(rt, small(e))?;
+    lines::end(rt)
 }
 
-fn every_power() {
+fn every_power(rt: &impl Print) -> io::Result<()> {
     for e in 16u64..49 {
-        curve(65536, 2000000, e);
+        curve(rt, 65536, 2000000, e)?;
     }
+    Ok(())
 }
 
-fn three(c: u64, m: u64)
+fn three(rt: &impl Print, c: u64, m: u64) -> io::Result<()>
     requires { c ≤ 500000 }
 {
-    curve(c, m, 16);
-    curve(c, m, 31);
-    curve(c, m, 48);
+    curve(rt, c, m, 16)?;
+    curve(rt, c, m, 31)?;
+    curve(rt, c, m, 48)
 }
 
-fn curve(c: u64, m: u64, e: u64)
+fn curve(rt: &impl Print, c: u64, m: u64, e: u64) -> io::Result<()>
     requires { c ≤ 500000 }
 {
     let row = [c, m, e, folded(0, c, m, e)];
-    lines::word(b"curve");
-    lines::row(&row);
-    lines::end();
+    lines::word(rt, "curve")?;
+    lines::row(rt, &row)?;
+    lines::end(rt)
 }
 
 fn small(e: u64) -> u64 {

@@ -3,35 +3,36 @@ ghost use Rattle.std.specs.Prelude.{◌≤◌};
 
 use crate::calls;
 use crate::calls::Call;
+use std::io;
 use testing::chance::{Drawn, next};
 use testing::lines;
 
-pub fn series(call: Call) {
-    let h = folded(call);
-    lines::word(b"series ");
-    calls::name(call);
-    lines::number(h);
-    lines::end();
+pub fn series(rt: &impl Print, call: Call) -> io::Result<()> {
+    let h = folded(rt, call)?;
+    lines::word(rt, "series ")?;
+    calls::name(rt, call)?;
+    lines::number(rt, h)?;
+    lines::end(rt)
 }
 
-fn folded(call: Call) -> u64 {
+fn folded(rt: &impl Print, call: Call) -> io::Result<u64> {
     let mut s = Drawn { x: 1, h: 0 };
     for i in 0u64..100000 {
-        s = turn(call, s, i % 2500 == 0);
+        s = turn(rt, call, s, i % 2500 == 0)?;
     }
-    s.h
+    Ok(s.h)
 }
 
-fn turn(call: Call, s: Drawn, shown: bool) -> Drawn {
+fn turn(rt: &impl Print, call: Call, s: Drawn, shown: bool) -> io::Result<Drawn> {
     let draws = eight(s.x);
     let v = arguments(call, draws);
     if shown {
-        calls::print(call, v);
+        calls::print(rt, call, v)?;
     }
-    Drawn {
+    Ok(Drawn {
         x: last(call, draws),
         h: calls::fold(s.h, call, v),
-    }
+    })
 }
 
 pub fn eight(x: u64) -> [u64; 8] {

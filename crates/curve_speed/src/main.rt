@@ -6,10 +6,11 @@ ghost use Rattle.std.specs.Prelude.{◌≤◌};
 
 use curve::capacity;
 use curve::capacity::Roots;
+use std::{env, io};
 use testing::lines;
 
 // Idle, a root by each way, and searches: of many curves, and of the one point where most trials are needed.
-#[derive(Drop)]
+#[derive(Clone, Copy)]
 enum Way {
     Idle,
     Newton,
@@ -21,44 +22,47 @@ enum Way {
 
 const ROUND: u64 = 65536;
 
-fn main() {
-    let mut word = [0u8; 8];
+fn main(rt: HostRuntime) -> io::Result<()> {
     let roots = capacity::printed_roots();
-    if os::arg(1, &mut word) == 0 {
-        print(Way::Newton, &roots, ROUND);
-        print(Way::Lent, &roots, ROUND);
-        print(Way::Made, &roots, ROUND);
-        print(Way::Search, &roots, ROUND);
-        print(Way::Worst, &roots, ROUND);
-        return;
+    if let Some(word) = env::args(&rt)?.nth(1) {
+        return print(&rt, named(word.as_str()), &roots, 100 * ROUND);
     }
-    print(named(word[0]), &roots, 100 * ROUND);
+    print(&rt, Way::Newton, &roots, ROUND)?;
+    print(&rt, Way::Lent, &roots, ROUND)?;
+    print(&rt, Way::Made, &roots, ROUND)?;
+    print(&rt, Way::Search, &roots, ROUND)?;
+    print(&rt, Way::Worst, &roots, ROUND)
 }
 
-fn named(letter: u8) -> Way {
-    match letter {
-        b'n' => Way::Newton,
-        b'l' => Way::Lent,
-        b'm' => Way::Made,
-        b's' => Way::Search,
-        b'w' => Way::Worst,
+// By its first letter.
+fn named(word: &str) -> Way {
+    match word.as_bytes() {
+        [b'n', ..] => Way::Newton,
+        [b'l', ..] => Way::Lent,
+        [b'm', ..] => Way::Made,
+        [b's', ..] => Way::Search,
+        [b'w', ..] => Way::Worst,
         _ => Way::Idle,
     }
 }
 
-fn print(way: Way, roots: &Roots, count: u64)
+fn print(rt: &impl Print, way: Way, roots: &Roots, count: u64) -> io::Result<()>
     requires { count ≤ 6553600 }
 {
+    name(rt, way)?;
+    lines::number(rt, chain(way, roots, count))?;
+    lines::end(rt)
+}
+
+fn name(rt: &impl Print, way: Way) -> io::Result<()> {
     match way {
-        Way::Idle => lines::word(b"idle"),
-        Way::Newton => lines::word(b"newton"),
-        Way::Lent => lines::word(b"lent"),
-        Way::Made => lines::word(b"made"),
-        Way::Search => lines::word(b"search"),
-        Way::Worst => lines::word(b"worst"),
+        Way::Idle => lines::word(rt, "idle"),
+        Way::Newton => lines::word(rt, "newton"),
+        Way::Lent => lines::word(rt, "lent"),
+        Way::Made => lines::word(rt, "made"),
+        Way::Search => lines::word(rt, "search"),
+        Way::Worst => lines::word(rt, "worst"),
     }
-    lines::number(chain(way, roots, count));
-    lines::end();
 }
 
 // The last answer of a chain.

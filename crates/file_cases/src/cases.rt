@@ -1,6 +1,7 @@
 // Files chosen by number: lengths, N and M, every word at the edges of its range, and reaches.
 use crate::series;
 use crate::series::{State, loaded};
+use std::io;
 use testing::choices::Choice;
 use testing::files::File;
 use testing::{files, lines, ranges};
@@ -15,7 +16,7 @@ const SHARES: [u64; 10] = [
     0, 1, 2, 32768, 65535, 65536, 65537, 2147483648, 4294901760, 4294967295,
 ];
 
-pub fn good(choice: Choice, s: State, i: u64) -> State {
+pub fn good(rt: &impl Print, choice: Choice, s: State, i: u64) -> io::Result<State> {
     let n = 1 + i / 32 % 32;
     let m = i % 32;
     let draft = series::good(choice, n, m, s.x);
@@ -26,47 +27,47 @@ pub fn good(choice: Choice, s: State, i: u64) -> State {
         x: draft.x,
         h: s.h,
     };
-    let s1 = loaded(s0, file, false);
-    let s2 = loaded(s1, files::sized(file, size - 4), false);
-    let s3 = loaded(s2, files::sized(file, size - 1), false);
-    let s4 = loaded(s3, files::sized(file, size + 1), false);
-    let s5 = loaded(s4, files::sized(file, size + 4), false);
+    let s1 = loaded(rt, s0, file, false)?;
+    let s2 = loaded(rt, s1, files::sized(file, size - 4), false)?;
+    let s3 = loaded(rt, s2, files::sized(file, size - 1), false)?;
+    let s4 = loaded(rt, s3, files::sized(file, size + 1), false)?;
+    let s5 = loaded(rt, s4, files::sized(file, size + 4), false)?;
     if m == 31 {
-        lines::line(b"good", &[n, s5.h]);
+        lines::line(rt, "good", &[n, s5.h])?;
     }
-    s5
+    Ok(s5)
 }
 
 // Lengths up to 9, and those near the file's own, are printed.
-pub fn size(s: State, i: u64) -> State {
+pub fn size(rt: &impl Print, s: State, i: u64) -> io::Result<State> {
     let file = s.file;
     let own = file.size as u64 % 4096;
     let size = i % 4096;
     let near = if size < 10 { true } else { own < size + 6 };
     if near {
-        lines::word(b"size");
-        lines::number(size);
+        lines::word(rt, "size")?;
+        lines::number(rt, size)?;
     }
-    let after = loaded(s, files::sized(file, size as usize), near);
+    let after = loaded(rt, s, files::sized(file, size as usize), near)?;
     if near {
-        lines::end();
+        lines::end(rt)?;
     }
-    after
+    Ok(after)
 }
 
 // At the length that N and M ask for, or at the longest, and at 8 bytes.
-pub fn counts(s: State, i: u64) -> State {
+pub fn counts(rt: &impl Print, s: State, i: u64) -> io::Result<State> {
     let n = COUNTS[(i % 12) as usize];
     let m = COUNTS[(i / 12 % 12) as usize];
     let base = s.file;
     let file = files::with(files::with(base, 0, n), 1, m);
-    lines::word(b"counts");
-    lines::number(n);
-    lines::number(m);
-    let s1 = loaded(s, files::sized(file, size_of(n, m)), true);
-    let s2 = loaded(s1, files::sized(file, 8), true);
-    lines::end();
-    s2
+    lines::word(rt, "counts")?;
+    lines::number(rt, n)?;
+    lines::number(rt, m)?;
+    let s1 = loaded(rt, s, files::sized(file, size_of(n, m)), true)?;
+    let s2 = loaded(rt, s1, files::sized(file, 8), true)?;
+    lines::end(rt)?;
+    Ok(s2)
 }
 
 fn size_of(n: u64, m: u64) -> usize {
@@ -79,26 +80,26 @@ fn size_of(n: u64, m: u64) -> usize {
     4 * files::words(n, m)
 }
 
-pub fn word(s: State, i: u64, shown: bool) -> State {
+pub fn word(rt: &impl Print, s: State, i: u64, shown: bool) -> io::Result<State> {
     let at = i as usize;
     if shown {
-        lines::word(b"word");
-        lines::number(i);
+        lines::word(rt, "word")?;
+        lines::number(rt, i)?;
     }
-    let s1 = edge(s, at, 0, shown);
-    let s2 = edge(s1, at, 1, shown);
-    let s3 = edge(s2, at, 2, shown);
-    let s4 = edge(s3, at, 3, shown);
-    let s5 = edge(s4, at, 4, shown);
+    let s1 = edge(rt, s, at, 0, shown)?;
+    let s2 = edge(rt, s1, at, 1, shown)?;
+    let s3 = edge(rt, s2, at, 2, shown)?;
+    let s4 = edge(rt, s3, at, 3, shown)?;
+    let s5 = edge(rt, s4, at, 4, shown)?;
     if shown {
-        lines::end();
+        lines::end(rt)?;
     }
-    s5
+    Ok(s5)
 }
 
-fn edge(s: State, at: usize, which: u64, shown: bool) -> State {
+fn edge(rt: &impl Print, s: State, at: usize, which: u64, shown: bool) -> io::Result<State> {
     let file = s.file;
-    loaded(s, edged(file, at, which), shown)
+    loaded(rt, s, edged(file, at, which), shown)
 }
 
 // The file with a word at an edge of its range.
@@ -109,31 +110,41 @@ pub fn edged(file: File, at: usize, which: u64) -> File {
     files::with(file, at, ranges::edge(range, which))
 }
 
-pub fn shares(s: State, i: u64) -> State {
+pub fn shares(rt: &impl Print, s: State, i: u64) -> io::Result<State> {
     let c0 = SHARES[(i % 10) as usize];
     let c1 = SHARES[(i / 10 % 10) as usize];
     let file = s.file;
     let at = files::words(2, 1);
-    lines::word(b"shares");
-    lines::number(c0);
-    lines::number(c1);
-    let after = loaded(s, files::with(files::with(file, at, c0), at + 1, c1), true);
-    lines::end();
-    after
+    lines::word(rt, "shares")?;
+    lines::number(rt, c0)?;
+    lines::number(rt, c1)?;
+    let after = loaded(
+        rt,
+        s,
+        files::with(files::with(file, at, c0), at + 1, c1),
+        true,
+    )?;
+    lines::end(rt)?;
+    Ok(after)
 }
 
 // A line a reach: its own number, then the answers for next 0 to 32.
-pub fn nexts(s: State, i: u64) -> State {
+pub fn nexts(rt: &impl Print, s: State, i: u64) -> io::Result<State> {
     let reach = i / 33 % 31;
     let v = i % 33;
     let file = s.file;
     if v == 0 {
-        lines::word(b"next");
-        lines::number(reach + 1);
+        lines::word(rt, "next")?;
+        lines::number(rt, reach + 1)?;
     }
-    let after = loaded(s, files::with(file, files::words(1, reach) + 2, v), true);
+    let after = loaded(
+        rt,
+        s,
+        files::with(file, files::words(1, reach) + 2, v),
+        true,
+    )?;
     if v == 32 {
-        lines::end();
+        lines::end(rt)?;
     }
-    after
+    Ok(after)
 }

@@ -1,6 +1,7 @@
 // Good files, damaged at random.
 use crate::series::{State, loaded};
 use crate::{cases, series};
+use std::io;
 use testing::chance::next;
 use testing::choices::Choice;
 use testing::files::File;
@@ -19,28 +20,32 @@ fn drawn(s: State) -> State {
     }
 }
 
-pub fn several(s: State, i: u64) -> State {
+pub fn several(rt: &impl Print, s: State, i: u64) -> io::Result<State> {
     let shown = i % 50 == 0;
     if shown {
-        lines::word(b"several");
+        lines::word(rt, "several")?;
     }
-    let s1 = outside(outside(outside(drawn(s), shown), shown), shown);
+    let s1 = outside(
+        rt,
+        outside(rt, outside(rt, drawn(s), shown)?, shown)?,
+        shown,
+    )?;
     let file = s1.file;
-    let after = loaded(s1, file, shown);
+    let after = loaded(rt, s1, file, shown)?;
     if shown {
-        lines::end();
+        lines::end(rt)?;
     }
-    after
+    Ok(after)
 }
 
 // A word after the first two below or above its range, or the greatest.
-fn outside(s: State, shown: bool) -> State {
+fn outside(rt: &impl Print, s: State, shown: bool) -> io::Result<State> {
     let x1 = next(s.x);
     let x2 = next(x1);
     let file = s.file;
     let words = file.size / 4;
     if words < 3 {
-        return s;
+        return Ok(s);
     }
     let at = 2 + x1 as usize % (words - 2) % files::BYTES;
     let which = match x2 % 3 {
@@ -49,16 +54,16 @@ fn outside(s: State, shown: bool) -> State {
         _ => 4,
     };
     if shown {
-        lines::number(at as u64);
+        lines::number(rt, at as u64)?;
     }
-    State {
+    Ok(State {
         file: cases::edged(file, at, which),
         x: x2,
         h: s.h,
-    }
+    })
 }
 
-pub fn byte(s: State, i: u64) -> State {
+pub fn byte(rt: &impl Print, s: State, i: u64) -> io::Result<State> {
     let shown = i % 200 == 0;
     let s1 = drawn(s);
     let x1 = next(s1.x);
@@ -69,9 +74,9 @@ pub fn byte(s: State, i: u64) -> State {
     let at = x1 as usize % (size % 4096 + 1) % files::BYTES;
     bytes[at] = (x2 % 256) as u8;
     if shown {
-        lines::word(b"byte");
-        lines::number(at as u64);
-        lines::number(x2 % 256);
+        lines::word(rt, "byte")?;
+        lines::number(rt, at as u64)?;
+        lines::number(rt, x2 % 256)?;
     }
     let damaged = File { bytes, size };
     let s2 = State {
@@ -79,9 +84,9 @@ pub fn byte(s: State, i: u64) -> State {
         x: x2,
         h: s1.h,
     };
-    let after = loaded(s2, damaged, shown);
+    let after = loaded(rt, s2, damaged, shown)?;
     if shown {
-        lines::end();
+        lines::end(rt)?;
     }
-    after
+    Ok(after)
 }

@@ -2,12 +2,13 @@
 use crate::{cases, damage};
 use basin_testing::checksum::fold_basin;
 use basin_testing::files::load;
+use std::io;
 use testing::choices::Choice;
 use testing::drafts::{Draft, Plan, Shape};
 use testing::files::File;
 use testing::{checksum, drafts, lines};
 
-#[derive(Drop)]
+#[derive(Clone, Copy)]
 pub enum Part {
     // Good files of every N and M, and each a byte and a word too short and too long.
     Good,
@@ -30,18 +31,26 @@ pub enum Part {
 }
 
 // A series as far as it has come: its file, the generator and the checksum.
-#[derive(Drop)]
+#[derive(Clone, Copy)]
 pub struct State {
     pub file: File,
     pub x: u64,
     pub h: u64,
 }
 
-pub fn run(name: &[u8], part: Part, choice: Choice, n: u64, m: u64, count: u64) {
+pub fn run(
+    rt: &impl Print,
+    name: &str,
+    part: Part,
+    choice: Choice,
+    n: u64,
+    m: u64,
+    count: u64,
+) -> io::Result<()> {
     let start = good(choice, n, m, 1);
     let file = start.file;
-    let s = loads(part, choice, file, count);
-    lines::line(name, &[n, m, s.h]);
+    let s = loads(rt, part, choice, file, count)?;
+    lines::line(rt, name, &[n, m, s.h])
 }
 
 // A good file.
@@ -55,40 +64,40 @@ pub fn good(choice: Choice, n: u64, m: u64, x: u64) -> Draft {
     drafts::good(plan, x)
 }
 
-fn loads(part: Part, choice: Choice, file: File, count: u64) -> State {
+fn loads(rt: &impl Print, part: Part, choice: Choice, file: File, count: u64) -> io::Result<State> {
     let mut s = State { file, x: 1, h: 0 };
     for i in 0..count {
-        s = turn(part, choice, s, i);
+        s = turn(rt, part, choice, s, i)?;
     }
-    s
+    Ok(s)
 }
 
-fn turn(part: Part, choice: Choice, s: State, i: u64) -> State {
+fn turn(rt: &impl Print, part: Part, choice: Choice, s: State, i: u64) -> io::Result<State> {
     match part {
-        Part::Good => cases::good(choice, s, i),
-        Part::Sizes => cases::size(s, i),
-        Part::Counts => cases::counts(s, i),
-        Part::Words => cases::word(s, i, false),
-        Part::WordsShown => cases::word(s, i, true),
-        Part::Shares => cases::shares(s, i),
-        Part::Nexts => cases::nexts(s, i),
-        Part::Several => damage::several(s, i),
-        Part::Bytes => damage::byte(s, i),
+        Part::Good => cases::good(rt, choice, s, i),
+        Part::Sizes => cases::size(rt, s, i),
+        Part::Counts => cases::counts(rt, s, i),
+        Part::Words => cases::word(rt, s, i, false),
+        Part::WordsShown => cases::word(rt, s, i, true),
+        Part::Shares => cases::shares(rt, s, i),
+        Part::Nexts => cases::nexts(rt, s, i),
+        Part::Several => damage::several(rt, s, i),
+        Part::Bytes => damage::byte(rt, s, i),
     }
 }
 
 // One more load, its number and place printed where asked for; the series' own file stays.
-pub fn loaded(s: State, file: File, shown: bool) -> State {
+pub fn loaded(rt: &impl Print, s: State, file: File, shown: bool) -> io::Result<State> {
     let given = load(file);
     let basin = given.basin;
     let told = [given.number, given.place];
     if shown {
-        lines::row(&told);
+        lines::row(rt, &told)?;
     }
     let base = s.file;
-    State {
+    Ok(State {
         file: base,
         x: s.x,
         h: fold_basin(checksum::fold_row(s.h, &told), basin),
-    }
+    })
 }

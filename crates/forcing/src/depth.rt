@@ -11,14 +11,14 @@ const MOST_RAIN_MM: u64 = 1000;
 const MOST_PAN_MM: u64 = 100;
 
 // What a number is said to be: it decides the limit.
-#[derive(Drop)]
+#[derive(Clone, Copy)]
 pub enum Gauge {
     Rain,
     Pan,
 }
 
 // A depth call's answer, the depth in µm: number and place are 0 where it is accepted.
-#[derive(Drop)]
+#[derive(Clone, Copy)]
 pub struct Depth {
     pub number: u64,
     pub place: u64,

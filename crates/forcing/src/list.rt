@@ -24,7 +24,7 @@ pub struct Line {
 }
 
 // The forcing of one step, its weather by sub-basin: number and place are 0 where it is accepted.
-#[derive(Drop)]
+#[derive(Clone, Copy)]
 pub struct Forcing {
     pub number: u64,
     pub place: u64,

@@ -2,6 +2,7 @@
 use crate::numbers;
 use forcing::depth;
 use forcing::depth::Gauge;
+use std::io;
 use testing::chance::{Drawn, next};
 use testing::{checksum, lines};
 
@@ -35,7 +36,7 @@ const HALVES: [u64; 20] = [
     999937, 999998, 999999, 1000000,
 ];
 
-#[derive(Drop)]
+#[derive(Clone, Copy)]
 pub enum Part {
     // A centre, or one pattern off it, printed.
     Centres,
@@ -48,41 +49,41 @@ pub enum Part {
     Near,
 }
 
-pub fn series(part: Part, said: Gauge, count: u64) {
-    let s = calls(part, said, count);
-    gauge(said);
-    name(part);
-    lines::number(s.h);
-    lines::end();
+pub fn series(rt: &impl Print, part: Part, said: Gauge, count: u64) -> io::Result<()> {
+    let s = calls(rt, part, said, count)?;
+    gauge(rt, said)?;
+    name(rt, part)?;
+    lines::number(rt, s.h)?;
+    lines::end(rt)
 }
 
-fn gauge(said: Gauge) {
+fn gauge(rt: &impl Print, said: Gauge) -> io::Result<()> {
     match said {
-        Gauge::Rain => lines::word(b"rain"),
-        Gauge::Pan => lines::word(b"pan"),
+        Gauge::Rain => lines::word(rt, "rain"),
+        Gauge::Pan => lines::word(rt, "pan"),
     }
 }
 
-fn name(part: Part) {
+fn name(rt: &impl Print, part: Part) -> io::Result<()> {
     match part {
-        Part::Centres => lines::word(b" centres"),
-        Part::Halves => lines::word(b" halves"),
-        Part::EveryHalf => lines::word(b" every half"),
-        Part::EveryExponent => lines::word(b" every exponent"),
-        Part::Any => lines::word(b" any"),
-        Part::Near => lines::word(b" near"),
+        Part::Centres => lines::word(rt, " centres"),
+        Part::Halves => lines::word(rt, " halves"),
+        Part::EveryHalf => lines::word(rt, " every half"),
+        Part::EveryExponent => lines::word(rt, " every exponent"),
+        Part::Any => lines::word(rt, " any"),
+        Part::Near => lines::word(rt, " near"),
     }
 }
 
-fn calls(part: Part, said: Gauge, count: u64) -> Drawn {
+fn calls(rt: &impl Print, part: Part, said: Gauge, count: u64) -> io::Result<Drawn> {
     let mut s = Drawn { x: 1, h: 0 };
     for i in 0..count {
-        s = turn(part, said, s, i);
+        s = turn(rt, part, said, s, i)?;
     }
-    s
+    Ok(s)
 }
 
-fn turn(part: Part, said: Gauge, s: Drawn, i: u64) -> Drawn {
+fn turn(rt: &impl Print, part: Part, said: Gauge, s: Drawn, i: u64) -> io::Result<Drawn> {
     let x1 = next(s.x);
     let x2 = next(x1);
     let pattern = match part {
@@ -96,15 +97,15 @@ fn turn(part: Part, said: Gauge, s: Drawn, i: u64) -> Drawn {
     let given = depth::depth_of(numbers::number(pattern), said);
     let row = [given.number, given.place, given.depth];
     if shown(part, i) {
-        gauge(said);
-        lines::number(pattern);
-        lines::row(&row);
-        lines::end();
+        gauge(rt, said)?;
+        lines::number(rt, pattern)?;
+        lines::row(rt, &row)?;
+        lines::end(rt)?;
     }
-    Drawn {
+    Ok(Drawn {
         x: x2,
         h: checksum::fold_row(s.h, &row),
-    }
+    })
 }
 
 fn shown(part: Part, i: u64) -> bool {

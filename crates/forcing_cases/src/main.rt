@@ -10,22 +10,23 @@ mod reads;
 use depths::Part;
 use forcing::depth::Gauge;
 use reads::Part as Read;
+use std::io;
 
-fn main() {
-    depth_calls(Gauge::Rain, 1000001);
-    depth_calls(Gauge::Pan, 100001);
-    reads::series(b"faults", Read::Faults, 768);
-    reads::series(b"pairs", Read::Pairs, 18432);
-    reads::series(b"counts", Read::Counts, 200);
-    reads::series(b"any", Read::Any, 20000);
+fn main(rt: HostRuntime) -> io::Result<()> {
+    depth_calls(&rt, Gauge::Rain, 1000001)?;
+    depth_calls(&rt, Gauge::Pan, 100001)?;
+    reads::series(&rt, "faults", Read::Faults, 768)?;
+    reads::series(&rt, "pairs", Read::Pairs, 18432)?;
+    reads::series(&rt, "counts", Read::Counts, 200)?;
+    reads::series(&rt, "any", Read::Any, 20000)
 }
 
 // The gauge's limit is below so many µm.
-fn depth_calls(said: Gauge, end: u64) {
-    depths::series(Part::Centres, said, 60);
-    depths::series(Part::Halves, said, 60);
-    depths::series(Part::EveryHalf, said, 3 * (end % 1048576));
-    depths::series(Part::EveryExponent, said, 2048);
-    depths::series(Part::Any, said, 100000);
-    depths::series(Part::Near, said, 100000);
+fn depth_calls(rt: &impl Print, said: Gauge, end: u64) -> io::Result<()> {
+    depths::series(rt, Part::Centres, said, 60)?;
+    depths::series(rt, Part::Halves, said, 60)?;
+    depths::series(rt, Part::EveryHalf, said, 3 * (end % 1048576))?;
+    depths::series(rt, Part::EveryExponent, said, 2048)?;
+    depths::series(rt, Part::Any, said, 100000)?;
+    depths::series(rt, Part::Near, said, 100000)
 }

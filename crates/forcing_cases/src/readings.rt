@@ -63,7 +63,7 @@ pub fn chosen(f: u64) -> Line {
     }
 }
 
-#[derive(Drop)]
+#[derive(Clone, Copy)]
 pub enum Source {
     // From 0.0625 mm on, rain rising and pan falling.
     Good,
@@ -72,7 +72,7 @@ pub enum Source {
 }
 
 // 32 lines and the generator.
-#[derive(Drop)]
+#[derive(Clone, Copy)]
 pub struct Batch {
     pub lines: [Line; 32],
     pub x: u64,

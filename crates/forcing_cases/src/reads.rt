@@ -3,6 +3,7 @@ use crate::readings;
 use crate::readings::Source;
 use forcing::list;
 use forcing::list::{Forcing, Line};
+use std::io;
 use testing::chance::{Drawn, next};
 use testing::{checksum, lines};
 
@@ -20,7 +21,7 @@ const COUNTS: [u64; 10] = [
     18446744073709551615,
 ];
 
-#[derive(Drop)]
+#[derive(Clone, Copy)]
 pub enum Part {
     // A line of the table at a place.
     Faults,
@@ -31,30 +32,31 @@ pub enum Part {
     Any,
 }
 
-pub fn series(name: &[u8], part: Part, count: u64) {
-    let s = reads(part, count);
-    lines::line(name, &[s.h]);
+pub fn series(rt: &impl Print, name: &str, part: Part, count: u64) -> io::Result<()> {
+    let s = reads(rt, part, count)?;
+    lines::line(rt, name, &[s.h])
 }
 
-fn reads(part: Part, count: u64) -> Drawn {
+fn reads(rt: &impl Print, part: Part, count: u64) -> io::Result<Drawn> {
     let mut s = Drawn { x: 1, h: 0 };
     for i in 0..count {
-        s = turn(part, s, i);
+        s = turn(rt, part, s, i)?;
     }
-    s
+    Ok(s)
 }
 
-fn turn(part: Part, s: Drawn, i: u64) -> Drawn {
+fn turn(rt: &impl Print, part: Part, s: Drawn, i: u64) -> io::Result<Drawn> {
     match part {
-        Part::Faults => fault(s, i / 32, i % 32),
-        Part::Pairs => pair(s, i % 24, i / 24 % 24, i / 576),
+        Part::Faults => fault(rt, s, i / 32, i % 32),
+        Part::Pairs => Ok(pair(s, i % 24, i / 24 % 24, i / 576)),
         Part::Counts => counts(
+            rt,
             s,
             COUNTS[(i % 10) as usize],
             COUNTS[(i / 10 % 10) as usize],
             i / 100,
         ),
-        Part::Any => any(s, i % 2500 == 0),
+        Part::Any => any(rt, s, i % 2500 == 0),
     }
 }
 
@@ -73,26 +75,26 @@ fn good() -> [Line; 32] {
 }
 
 // Line f of the table at a place, N and count at 32, up to the place and just before it.
-fn fault(s: Drawn, f: u64, at: u64) -> Drawn {
+fn fault(rt: &impl Print, s: Drawn, f: u64, at: u64) -> io::Result<Drawn> {
     let with_fault = with(good(), at, readings::chosen(f));
     let whole = list::read(with_fault, 32, 32);
     let place = at % 32;
     let last = list::read(with_fault, place + 1, place + 1);
     let past = list::read(with_fault, place, place);
     if at % 10 == 1 {
-        lines::word(b"fault");
-        lines::number(f);
-        lines::number(at);
-        told(whole);
-        told(last);
-        told(past);
-        lines::end();
+        lines::word(rt, "fault")?;
+        lines::number(rt, f)?;
+        lines::number(rt, at)?;
+        told(rt, whole)?;
+        told(rt, last)?;
+        told(rt, past)?;
+        lines::end(rt)?;
     }
     let h = fold(s.h, whole);
-    Drawn {
+    Ok(Drawn {
         x: s.x,
         h: fold(fold(h, last), past),
-    }
+    })
 }
 
 fn pair(s: Drawn, f: u64, g: u64, at: u64) -> Drawn {
@@ -104,22 +106,22 @@ fn pair(s: Drawn, f: u64, g: u64, at: u64) -> Drawn {
     }
 }
 
-fn counts(s: Drawn, n: u64, count: u64, missing: u64) -> Drawn {
+fn counts(rt: &impl Print, s: Drawn, n: u64, count: u64, missing: u64) -> io::Result<Drawn> {
     let at = if missing == 0 { 32 } else { 1 };
     let given = list::read(with(good(), at, readings::chosen(0)), count, n);
-    lines::word(b"count");
-    lines::number(n);
-    lines::number(count);
-    told(given);
-    lines::end();
-    Drawn {
+    lines::word(rt, "count")?;
+    lines::number(rt, n)?;
+    lines::number(rt, count)?;
+    told(rt, given)?;
+    lines::end(rt)?;
+    Ok(Drawn {
         x: s.x,
         h: fold(s.h, given),
-    }
+    })
 }
 
 // N from 0 to 33, and one count of 16 is drawn too.
-fn any(s: Drawn, shown: bool) -> Drawn {
+fn any(rt: &impl Print, s: Drawn, shown: bool) -> io::Result<Drawn> {
     let x1 = next(s.x);
     let x2 = next(x1);
     let made = readings::made(Source::Any, x2);
@@ -128,27 +130,27 @@ fn any(s: Drawn, shown: bool) -> Drawn {
     let drawn = made.lines;
     let given = list::read(drawn, count, n);
     if shown {
-        print(n, count, given);
+        print(rt, n, count, given)?;
     }
-    Drawn {
+    Ok(Drawn {
         x: made.x,
         h: fold(s.h, given),
-    }
+    })
 }
 
-fn print(n: u64, count: u64, given: Forcing) {
+fn print(rt: &impl Print, n: u64, count: u64, given: Forcing) -> io::Result<()> {
     let depths = depths_of(given);
-    lines::word(b"read");
-    lines::number(n);
-    lines::number(count);
-    told(given);
-    lines::row(&depths);
-    lines::end();
+    lines::word(rt, "read")?;
+    lines::number(rt, n)?;
+    lines::number(rt, count)?;
+    told(rt, given)?;
+    lines::row(rt, &depths)?;
+    lines::end(rt)
 }
 
 // The answer of a reading but for its weather.
-fn told(given: Forcing) {
-    lines::row(&[given.number, given.place, given.estimated]);
+fn told(rt: &impl Print, given: Forcing) -> io::Result<()> {
+    lines::row(rt, &[given.number, given.place, given.estimated])
 }
 
 // Every number of the answer.

@@ -1,12 +1,15 @@
 -- What the private functions require and answer: no part of document 01.
 use Rattle.std.specs.Prelude.{◌≡◌, Bool, cond, List, ◌++◌, ◌⊎◌, ℕ, ◌+◌, ◌*◌, ◌≤◌, ◌<◌, eqb, length, take}
-use Rattle.io.specs.Counts.{IsPrefixLen}
 use Rattle.basin.specs.declared.state.Basin.{Basin}
 use Rattle.basin.specs.declared.step.Report.{Report}
 use Rattle.basin.specs.File.{load_call}
 use Rattle.basin.specs.Calls.{Call, last_basin}
 use Rattle.program.specs.Print.{decimal, blank, newline}
 use Rattle.program.specs.Print.{short_text, part_text, step_bytes, whole_steps, part_bytes, calls_of, steps_text, printed}
+
+-- a count of the bytes of a list, and so the length of the part that it counts
+abbrev pub IsPrefixLen : ℕ → List ℕ → Type 0
+IsPrefixLen n xs = (n ≤ length xs) × (n ≡ length (take n xs))
 
 -- Lines that may be written, the first of them as line `first`: all that is printed where the load is refused, those of steps, that of a part
 -- step.

@@ -1,94 +1,100 @@
 // Reading and writing that an interrupt does not end: the call is tried again.
-ghost use Rattle.io.specs.Counts.{IsPrefixLen};
+ghost use Rattle.std.specs.Prelude.{◌≡◌, ◌<◌, length, IfNone};
+ghost use Rattle.program.specs.Workers.{IsPrefixLen};
 
-// What a read moved. Where it failed, errno says why.
-#[derive(Drop)]
-pub struct Read {
+use std::io;
+use std::io::ErrorKind;
+
+// How many bytes were moved, and where that failed, why.
+#[derive(Clone, Copy)]
+pub struct Moved {
     pub count: usize,
-    pub failed: bool,
+    pub failure: Option<io::Error>,
 }
 
 // More calls than a run has time for.
 const CALLS: u64 = u64::MAX;
 
 // Reads what is there: nothing at the end of the input.
-pub fn read_some(fd: i32, bytes: &mut [u8]) -> Read
+pub fn read_some<R: io::Read>(from: &mut R, bytes: &mut [u8]) -> Moved
     ensures { IsPrefixLen result.count bytes.new }
 {
-    let mut left = CALLS;
-    while left > 0 {
-        let got = libc::read(fd, bytes);
-        if got >= 0 {
-            let count = io::count(got, bytes);
-            return Read {
-                count,
-                failed: false,
-            };
+    for _ in 0..CALLS {
+        match from.read(bytes) {
+            Ok(count) => return well(count),
+            Err(error) if error.kind() == ErrorKind::Interrupted => {}
+            Err(error) => return failed(0, error),
         }
-        if os::errno() != libc::EINTR {
-            break;
-        }
-        left -= 1;
     }
-    Read {
-        count: 0,
-        failed: true,
-    }
+    failed(0, io::Error::from(ErrorKind::Interrupted))
 }
 
 // Reads until bytes are full or the input ends.
-pub fn read_full(fd: i32, bytes: &mut [u8]) -> Read
+pub fn read_full<R: io::Read>(from: &mut R, bytes: &mut [u8]) -> Moved
     ensures { IsPrefixLen result.count bytes.new }
 {
     let mut count = 0;
     while count < bytes.len() {
-        let more = read_some(fd, &mut bytes[count..]);
-        if more.failed {
-            return Read {
-                count,
-                failed: true,
-            };
+        let more = read_some(from, &mut bytes[count..]);
+        if let Some(error) = more.failure {
+            return failed(count, error);
         }
         if more.count == 0 {
             break;
         }
         count += more.count;
     }
-    Read {
-        count,
-        failed: false,
-    }
+    well(count)
 }
 
-// Writes bytes and answers how many: fewer than all where a write fails, and then errno says why.
-pub fn write_full(fd: i32, bytes: &[u8]) -> usize
-    ensures { IsPrefixLen result bytes.now }
+// Writes bytes: all, or fewer where a write fails.
+pub fn write_full<W: io::Write>(to: &mut W, bytes: &[u8]) -> Moved
+    ensures counts { IsPrefixLen result.count bytes.now }
+    ensures all { IfNone result.failure (result.count ≡ length bytes.now) }
 {
     let mut count = 0;
     while count < bytes.len() {
-        let more = write_some(fd, &bytes[count..]);
-        if more == 0 {
-            break;
+        let more = write_some(to, &bytes[count..]);
+        if let Some(error) = more.failure {
+            return failed(count, error);
         }
-        count += more;
+        count += more.count;
     }
-    count
+    well(count)
 }
 
-// One write: nothing where it fails.
-fn write_some(fd: i32, bytes: &[u8]) -> usize
-    ensures { IsPrefixLen result bytes.now }
+// One write: some bytes, or none where it fails.
+fn write_some<W: io::Write>(to: &mut W, bytes: &[u8]) -> Moved
+    ensures counts { IsPrefixLen result.count bytes.now }
+    ensures some { IfNone result.failure (0 < result.count) }
 {
-    let mut left = CALLS;
-    while left > 0 {
-        let put = libc::write(fd, bytes);
-        if put >= 0 {
-            return io::count(put, bytes);
+    for _ in 0..CALLS {
+        match to.write(bytes) {
+            Ok(0) => return failed(0, io::Error::from(ErrorKind::WriteZero)),
+            Ok(count) => return well(count),
+            Err(error) if error.kind() == ErrorKind::Interrupted => {}
+            Err(error) => return failed(0, error),
         }
-        if os::errno() != libc::EINTR {
-            break;
-        }
-        left -= 1;
     }
-    0
+    failed(0, io::Error::from(ErrorKind::Interrupted))
+}
+
+fn well(count: usize) -> Moved
+    ensures counted { result.count ≡ count }
+    ensures whole { result.failure ≡ None }
+{
+    Moved {
+        count,
+        failure: None,
+    }
+}
+
+fn failed(count: usize, error: io::Error) -> Moved
+    ensures counted { result.count ≡ count }
+    ensures why { result.failure ≡ Some error }
+{
+    Moved {
+        count,
+        failure: Some(error),
+    }
 }

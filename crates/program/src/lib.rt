@@ -9,14 +9,14 @@ pub mod say;
 mod text;
 
 ghost use Rattle.std.specs.Prelude.{◌≡◌, List, ℕ, ◌≤◌, length};
-ghost use Rattle.io.specs.Counts.{IsPrefixLen};
 ghost use Rattle.basin.specs.File.{load_call};
 ghost use Rattle.program.specs.Print.{load_text, printed};
-ghost use Rattle.program.specs.Workers.{Begins, StartOf, Status};
+ghost use Rattle.program.specs.Workers.{Begins, IsPrefixLen, StartOf, Status};
 
 use basin::file;
 use basin::file::Loaded;
-use libc::STDERR_FILENO;
+use std::rt::Files;
+use std::{fs, io};
 
 // How a run ends: all was read and printed; the load was refused, the forcing ends inside a step, or a file could not be opened; a
 // read or a write failed on the way.
@@ -26,27 +26,34 @@ pub const NOT_ALL: u64 = 1;
 
 pub const FAILED: u64 = 3;
 
-// Runs on the files of these paths, and answers how that ends.
-pub fn account(basin: &[u8], forcing: &[u8]) -> u64
+// Runs on the files of these paths: prints their lines, says what keeps it from reading and printing all, and answers how that ends.
+pub fn account<F: Files, W: io::Write, E: io::Write>(
+    files: &F,
+    to: &mut W,
+    said: &mut E,
+    basin: &str,
+    forcing: &str,
+) -> u64
     ensures { Status result }
 {
     // 4,096 bytes, which no legal basin file has: the start of a longer one is refused as the whole is.
-    let mut bytes = io::buffer();
+    let mut bytes = [0u8; 4096];
     let mut out = [0u8; run::OUT_BYTES];
-    let start = read_start(basin, &mut bytes);
+    let start = read_start(files, said, basin, &mut bytes);
     let size = start.size;
     let loaded = file::load(&bytes[..size]);
     if loaded.number != 0 {
-        return refuse(&mut out, start, &bytes[..size], loaded);
+        return refuse(to, said, &mut out, start, &bytes[..size], loaded);
     }
     let basin = loaded.basin;
-    let fd = os::open_read(forcing);
-    if fd < 0 {
-        os::fail(b"forcing.bin: could not be opened");
-        return NOT_ALL;
-    }
-    let ran = run::run(fd, basin, &mut out);
-    libc::close(fd);
+    let mut file = match fs::open(files, forcing) {
+        Ok(file) => file,
+        Err(error) => {
+            say::failed(said, b"forcing.bin: could not be opened", error);
+            return NOT_ALL;
+        }
+    };
+    let ran = run::run(&mut file, to, said, basin, &mut out);
     ran.status
 }
 
@@ -58,24 +65,28 @@ struct Start {
 }
 
 // Puts the start of a file into bytes: nothing of one that can't be opened or read.
-fn read_start(path: &[u8], bytes: &mut [u8]) -> Start
+fn read_start<F: Files, E: io::Write>(
+    files: &F,
+    said: &mut E,
+    path: &str,
+    bytes: &mut [u8],
+) -> Start
     ensures prefix_len { IsPrefixLen result.size bytes.new }
     ensures status { Status result.ended }
 {
-    let fd = os::open_read(path);
-    if fd < 0 {
-        os::fail(b"basin.bin: could not be opened");
-        return Start {
-            size: 0,
-            ended: NOT_ALL,
-        };
-    }
-    let read = calls::read_full(fd, bytes);
-    if read.failed {
-        os::fail(b"basin.bin: could not be read");
-    }
-    libc::close(fd);
-    if read.failed {
+    let mut file = match fs::open(files, path) {
+        Ok(file) => file,
+        Err(error) => {
+            say::failed(said, b"basin.bin: could not be opened", error);
+            return Start {
+                size: 0,
+                ended: NOT_ALL,
+            };
+        }
+    };
+    let read = calls::read_full(&mut file, bytes);
+    if let Some(error) = read.failure {
+        say::failed(said, b"basin.bin: could not be read", error);
         return Start {
             size: 0,
             ended: FAILED,
@@ -89,7 +100,14 @@ fn read_start(path: &[u8], bytes: &mut [u8]) -> Start
 
 // Prints a refused load, and says why where its reading has not said so. What is printed is all that document 01 has for every file that
 // starts with these bytes.
-fn refuse(out: &mut [u8], start: Start, bytes: &[u8], loaded: Loaded) -> u64
+fn refuse<W: io::Write, E: io::Write>(
+    to: &mut W,
+    said: &mut E,
+    out: &mut [u8],
+    start: Start,
+    bytes: &[u8],
+    loaded: Loaded,
+) -> u64
     requires in_bounds { (129 ≤ length out.old) × Status start.ended }
     requires loaded_value { (loaded ≡ load_call bytes.now) × (loaded.number ≡ 0 → ⊥) }
     ensures status { Status result }
@@ -97,9 +115,9 @@ fn refuse(out: &mut [u8], start: Start, bytes: &[u8], loaded: Loaded) -> u64
     ensures by_index { (file forcing : List ℕ) → StartOf file bytes.now → Begins (printed file forcing) out.new }
 {
     let end = print::put_load(out, loaded);
-    let printed = print::write(&out[..end], 1);
+    let printed = print::write(to, said, &out[..end], 1);
     if start.ended == ALL {
-        say::refused_load(STDERR_FILENO, bytes, loaded.number, loaded.place);
+        say::refused_load(said, bytes, loaded.number, loaded.place);
     }
     if !printed {
         return FAILED;

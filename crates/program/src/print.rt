@@ -1,23 +1,23 @@
 // The lines that the program prints: document 01, "What the program prints". A line has at most 129 bytes: six numbers of at most 20
 // digits, and 9 besides.
 ghost use Rattle.std.specs.Prelude.{◌≡◌, ◌++◌, ◌+◌, ◌≤◌, ◌<◌, ◌^◌, length, take};
-ghost use Rattle.io.specs.Counts.{IsPrefixLen};
 ghost use Rattle.program.specs.Print.{load_text, accepted_text, refused_text, step_text, short_text};
-ghost use Rattle.program.specs.Workers.{Lines, ending_text};
+ghost use Rattle.program.specs.Workers.{IsPrefixLen, Lines, ending_text};
 
 use crate::{calls, say, text};
 use basin::file::Loaded;
 use basin::step::Report;
-use libc::STDOUT_FILENO;
+use std::io;
 
 // Prints lines, the first of which is line `first`, and answers whether it could; where not, that is said.
-pub fn write(lines: &[u8], first: u64) -> bool
+pub fn write<W: io::Write, E: io::Write>(to: &mut W, said: &mut E, lines: &[u8], first: u64) -> bool
     requires first_bound { first < 2 ^ 63 }
     requires lines { Lines first lines.now }
 {
-    let written = calls::write_full(STDOUT_FILENO, lines);
-    if written < lines.len() {
-        say::unwritten(first + text::lines_in(&lines[..written]));
+    let written = calls::write_full(to, lines);
+    if let Some(error) = written.failure {
+        let ended = text::lines_in(&lines[..written.count]);
+        say::unwritten(said, first + ended, error);
         return false;
     }
     true

@@ -5,14 +5,14 @@ ghost use Rattle.std.proofs.Math.Seq.{slice};
 ghost use Rattle.program.specs.Print.{step_bytes, part_text};
 ghost use Rattle.program.specs.Workers.{Begins, Ends, RunOf, Stepped};
 
-use crate::calls::Read;
+use crate::calls::Moved;
 use crate::{ALL, FAILED, NOT_ALL, calls, print, say};
 use basin::state::Basin;
 use basin::step;
 use basin::step::{Outcome, Report};
 use curve::capacity;
 use forcing::file;
-use libc::STDERR_FILENO;
+use std::io;
 
 // The most steps that are taken at a time, and the most bytes of their lines.
 const STEPS: u64 = 64;
@@ -30,8 +30,14 @@ pub struct Ran {
     pub kept: usize,
 }
 
-// Takes the steps from fd to its end and prints their lines, which are put at the start of the output.
-pub fn run(fd: i32, basin: Basin, out: &mut [u8]) -> Ran
+// Takes the steps that are read to their end and prints their lines, which are put at the start of the output.
+pub fn run<R: io::Read, W: io::Write, E: io::Write>(
+    from: &mut R,
+    to: &mut W,
+    said: &mut E,
+    basin: Basin,
+    out: &mut [u8],
+) -> Ran
     requires { (1 ≤ basin.n) × (basin.n ≤ 32) × (8256 ≤ length out.old) }
     ensures { RunOf basin result.status result.basin result.done result.kept out.new }
 {
@@ -43,19 +49,19 @@ pub fn run(fd: i32, basin: Basin, out: &mut [u8]) -> Ran
     let mut given = first_given(basin);
     let mut reads: u64 = 0;
     while reads < READS {
-        let read = read_after(fd, &mut input, kept, whole);
-        if read.failed {
-            say::unread(done);
+        let read = read_after(from, &mut input, kept, whole);
+        if let Some(error) = read.failure {
+            say::unread(said, done, error);
             return answer(FAILED, given, done, kept);
         }
         if read.count == 0 {
-            let status = end_run(out, done, kept, size);
+            let status = end_run(to, said, out, done, kept, size);
             return answer(status, given, done, kept);
         }
         let end = kept + read.count;
         let taken = take_steps(&input[..end], out, given, basin.n, done);
         let lines = taken.end;
-        if !print::write(&out[..lines], done + 1) {
+        if !print::write(to, said, &out[..lines], done + 1) {
             return answer(FAILED, given, done, kept);
         }
         given = taken.given;
@@ -63,7 +69,7 @@ pub fn run(fd: i32, basin: Basin, out: &mut [u8]) -> Ran
         kept = keep(&mut input, taken.bytes, end);
         reads += 1;
     }
-    let status = end_run(out, done, kept, size);
+    let status = end_run(to, said, out, done, kept, size);
     answer(status, given, done, kept)
 }
 
@@ -80,7 +86,14 @@ fn answer(status: u64, given: Outcome, done: u64, kept: usize) -> Ran
 }
 
 // Puts the line of a part step of size bytes, where some of it has come, prints it, and answers how the run ends.
-fn end_run(out: &mut [u8], done: u64, kept: usize, size: usize) -> u64
+fn end_run<W: io::Write, E: io::Write>(
+    to: &mut W,
+    said: &mut E,
+    out: &mut [u8],
+    done: u64,
+    kept: usize,
+    size: usize,
+) -> u64
     requires { (129 ≤ length out.old) × (done < 2 ^ 62) }
     ensures ends { Ends kept result }
     ensures begins { Begins (part_text kept) out.new }
@@ -89,8 +102,8 @@ fn end_run(out: &mut [u8], done: u64, kept: usize, size: usize) -> u64
         return ALL;
     }
     let end = print::put_short(out, kept as u64);
-    let printed = print::write(&out[..end], done + 1);
-    say::short(STDERR_FILENO, kept as u64, size as u64, done + 1);
+    let printed = print::write(to, said, &out[..end], done + 1);
+    say::short(said, kept as u64, size as u64, done + 1);
     if !printed {
         return FAILED;
     }
@@ -136,12 +149,12 @@ fn take_steps(bytes: &[u8], out: &mut [u8], given: Outcome, n: u64, done: u64) -
 }
 
 // Reads what is there, from index `from` up to index `to`; what lies before stays.
-fn read_after(fd: i32, input: &mut [u8], from: usize, to: usize) -> Read
+fn read_after<R: io::Read>(source: &mut R, input: &mut [u8], from: usize, to: usize) -> Moved
     requires { (from ≤ to) × (to ≤ length input.old) }
     ensures count_bound { from + result.count ≤ to }
     ensures input_unchanged { take from input.new ≡ take from input.old }
 {
-    calls::read_some(fd, &mut input[from..to])
+    calls::read_some(source, &mut input[from..to])
 }
 
 // Moves what lies from index `from` up to index `to` to the start, and answers how many bytes that is.

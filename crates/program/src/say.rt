@@ -4,25 +4,27 @@ ghost use Rattle.std.specs.Prelude.{◌+◌, ◌≤◌, ◌<◌, ◌^◌, length
 use crate::{calls, text};
 use basin::reach;
 use common::bytes::word;
+use std::io;
+use std::io::{Cursor, Write};
 use subbasin::record;
 
 const SUB_WORDS: u64 = record::WORDS as u64;
 
 // A load of bytes that was refused with number and place.
-pub fn refused_load(fd: i32, bytes: &[u8], number: u64, place: u64) {
+pub fn refused_load<W: io::Write>(to: &mut W, bytes: &[u8], number: u64, place: u64) {
     if number == 1 {
-        calls::write_full(fd, b"basin.bin: has fewer than 8 bytes\n");
+        calls::write_full(to, b"basin.bin: has fewer than 8 bytes\n");
         return;
     }
     let n = word(bytes, 0);
     if number == 3 {
-        wrong_length(fd, n, word(bytes, 1));
+        wrong_length(to, n, word(bytes, 1));
         return;
     }
-    outside(fd, place, n);
+    outside(to, place, n);
 }
 
-fn wrong_length(fd: i32, n: u64, m: u64)
+fn wrong_length<W: io::Write>(to: &mut W, n: u64, m: u64)
     requires { (n < 2 ^ 32) × (m < 2 ^ 32) }
 {
     let mut out = [0u8; 160];
@@ -31,10 +33,10 @@ fn wrong_length(fd: i32, n: u64, m: u64)
     let e1 = text::put_with(&mut out, e0, b" bytes that N = ", n);
     let e2 = text::put_with(&mut out, e1, b" and M = ", m);
     let end = text::put(&mut out, e2, b" ask for\n");
-    calls::write_full(fd, &out[..end]);
+    calls::write_full(to, &out[..end]);
 }
 
-fn outside(fd: i32, place: u64, n: u64)
+fn outside<W: io::Write>(to: &mut W, place: u64, n: u64)
     requires { n < 2 ^ 32 }
 {
     let mut out = [0u8; 160];
@@ -42,7 +44,7 @@ fn outside(fd: i32, place: u64, n: u64)
     let e1 = text::put(&mut out, e0, b" (");
     let e2 = put_word(&mut out, e1, place, n);
     let end = text::put(&mut out, e2, b") is outside its range\n");
-    calls::write_full(fd, &out[..end]);
+    calls::write_full(to, &out[..end]);
 }
 
 // What a word of the file is: `M`, or `LM of sub-basin 1`.
@@ -69,19 +71,19 @@ fn put_word(out: &mut [u8], at: usize, place: u64, n: u64) -> usize
 }
 
 // A part step at the end: count of the size bytes of step `step`.
-pub fn short(fd: i32, count: u64, size: u64, step: u64) {
+pub fn short<W: io::Write>(to: &mut W, count: u64, size: u64, step: u64) {
     let mut out = [0u8; 160];
     let e0 = text::put_with(&mut out, 0, b"forcing.bin: ends inside step ", step);
     let e1 = text::put_with(&mut out, e0, b", after ", count);
     let e2 = text::put_with(&mut out, e1, b" of its ", size);
     let end = text::put(&mut out, e2, b" bytes\n");
-    calls::write_full(fd, &out[..end]);
+    calls::write_full(to, &out[..end]);
 }
 
 // A read of the forcing that failed when so many steps had been taken.
-pub fn unread(steps: u64) {
+pub fn unread<W: io::Write>(to: &mut W, steps: u64, error: io::Error) {
     if steps == 0 {
-        os::fail(b"forcing.bin: could not be read");
+        failed(to, b"forcing.bin: could not be read", error);
         return;
     }
     let mut out = [0u8; 160];
@@ -91,11 +93,11 @@ pub fn unread(steps: u64) {
         b"forcing.bin: could not be read after step ",
         steps,
     );
-    os::fail(&out[..end]);
+    failed(to, &out[..end], error);
 }
 
 // A write that failed: not all of this line and of those after it are printed.
-pub fn unwritten(line: u64) {
+pub fn unwritten<W: io::Write>(to: &mut W, line: u64, error: io::Error) {
     let mut out = [0u8; 160];
     let e0 = text::put_with(
         &mut out,
@@ -104,5 +106,25 @@ pub fn unwritten(line: u64) {
         line,
     );
     let end = text::put(&mut out, e0, b" on");
-    os::fail(&out[..end]);
+    failed(to, &out[..end], error);
+}
+
+// What failed, and why, in the system's words.
+pub fn failed<W: io::Write>(to: &mut W, what: &[u8], error: io::Error) {
+    let mut text = Cursor::new([0u8; 128]);
+    let _ = write!(text, "{error}");
+    calls::write_full(to, what);
+    calls::write_full(to, b": ");
+    calls::write_full(to, words_of(text.get_ref()));
+    calls::write_full(to, b"\n");
+}
+
+// The words of an error's text: std puts the number of the system's error after them, and zeros follow.
+fn words_of(text: &[u8]) -> &[u8] {
+    for k in 0..text.len() {
+        if text[k] == 0 || text[k..].starts_with(b" (os error ") {
+            return &text[..k];
+        }
+    }
+    text
 }

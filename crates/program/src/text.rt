@@ -1,7 +1,7 @@
 // Text, put at a place of the output: each function answers where what it put ends.
 ghost use Rattle.std.specs.Prelude.{◌≡◌, ◌++◌, ◌+◌, ◌*◌, ◌≤◌, length, take};
-ghost use Rattle.io.specs.Counts.{IsPrefixLen};
 ghost use Rattle.program.specs.Print.{decimal};
+ghost use Rattle.program.specs.Workers.{IsPrefixLen};
 
 use subbasin::record::NAME_BYTES;
 
@@ -25,9 +25,22 @@ pub fn put_number(out: &mut [u8], at: usize, n: u64) -> usize
     ensures prefix_len { IsPrefixLen result out.new }
     ensures out_after { take result out.new ≡ take at out.old ++ decimal n }
 {
-    let mut text = [0u8; 20];
-    let k = io::decimal(n, &mut text);
-    put(out, at, &text[..k])
+    put_digits(out, at, n)
+}
+
+// The digits of a number below 10 are its one digit, those of any other its tenth's and then its last one.
+fn put_digits(out: &mut [u8], at: usize, n: u64) -> usize
+    requires { at + length (decimal n) ≤ length out.old }
+    ensures value { result ≡ at + length (decimal n) }
+    ensures out_after { take result out.new ≡ take at out.old ++ decimal n }
+{
+    if n < 10 {
+        out[at] = b'0' + n as u8;
+        return at + 1;
+    }
+    let end = put_digits(out, at, n / 10);
+    out[end] = b'0' + (n % 10) as u8;
+    end + 1
 }
 
 // A text, and after it a number.

@@ -4,6 +4,7 @@ use common::amounts;
 use common::weather::Weather;
 use forcing::depth;
 use forcing::depth::Gauge;
+use std::io;
 use std::num::wrapping_add_u64;
 use subbasin::record::SubBasin;
 use subbasin::step;
@@ -11,15 +12,15 @@ use subbasin::yields::Answer;
 use testing::lines;
 
 // A question but for the wanted depth: the pan depth is in millimetres.
-#[derive(Drop)]
+#[derive(Clone, Copy)]
 pub struct Question {
     pub basin: Basin,
     pub number: u64,
     pub pan: f32,
 }
 
-pub fn print(q: Question, wanted: u64) {
-    told(answer(q, wanted), sub_of(q), pan_of(q), wanted);
+pub fn print(rt: &impl Print, q: Question, wanted: u64) -> io::Result<()> {
+    told(rt, answer(q, wanted), sub_of(q), pan_of(q), wanted)
 }
 
 fn answer(q: Question, wanted: u64) -> Answer {
@@ -40,14 +41,14 @@ pub fn pan_of(q: Question) -> u64 {
 }
 
 // Number, place, whether the answer is none, and whether its rain does; of a refusal or none the last is what stands for the rain.
-pub fn told(given: Answer, s: SubBasin, pan: u64, wanted: u64) {
+pub fn told(rt: &impl Print, given: Answer, s: SubBasin, pan: u64, wanted: u64) -> io::Result<()> {
     let none = if given.none { 1 } else { 0 };
     let last = if is_rain(given) {
         does(s, given.rain, pan, wanted)
     } else {
         given.rain
     };
-    lines::row(&[given.number, given.place, none, last]);
+    lines::row(rt, &[given.number, given.place, none, last])
 }
 
 fn is_rain(given: Answer) -> bool {

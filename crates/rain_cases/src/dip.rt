@@ -4,13 +4,14 @@ use crate::asked;
 use crate::asked::Question;
 use basin::state::Basin;
 use basin_testing::{files, places};
+use std::io;
 use subbasin::record::SubBasin;
 use testing::choices::Choice;
 use testing::{drafts, lines};
 
-pub fn rows() {
-    under(0.0);
-    under(2.5);
+pub fn rows(rt: &impl Print) -> io::Result<()> {
+    under(rt, 0.0)?;
+    under(rt, 2.5)
 }
 
 pub fn basin() -> Basin {
@@ -20,36 +21,38 @@ pub fn basin() -> Basin {
     places::with(places::with(b, 6, 200000), 8, 20)
 }
 
-fn under(pan: f32) {
+fn under(rt: &impl Print, pan: f32) -> io::Result<()> {
     let q = Question {
         basin: basin(),
         number: 1,
         pan,
     };
-    lines::word(b"yields");
-    lines::number(asked::pan_of(q));
-    yields(asked::sub_of(q), asked::pan_of(q), 13);
-    lines::end();
-    depths(q, 13);
+    lines::word(rt, "yields")?;
+    lines::number(rt, asked::pan_of(q))?;
+    yields(rt, asked::sub_of(q), asked::pan_of(q), 13)?;
+    lines::end(rt)?;
+    depths(rt, q, 13)
 }
 
 // Of the rains 0..count.
-fn yields(s: SubBasin, pan: u64, count: u64) {
+fn yields(rt: &impl Print, s: SubBasin, pan: u64, count: u64) -> io::Result<()> {
     for rain in 0..count {
-        lines::number(asked::yielded(s, rain, pan));
+        lines::number(rt, asked::yielded(s, rain, pan))?;
     }
+    Ok(())
 }
 
 // The depths 0..count.
-fn depths(q: Question, count: u64) {
+fn depths(rt: &impl Print, q: Question, count: u64) -> io::Result<()> {
     for wanted in 0..count {
-        row(q, wanted);
+        row(rt, q, wanted)?;
     }
+    Ok(())
 }
 
-fn row(q: Question, wanted: u64) {
-    lines::word(b"dip");
-    lines::row(&[asked::pan_of(q), wanted]);
-    asked::print(q, wanted);
-    lines::end();
+fn row(rt: &impl Print, q: Question, wanted: u64) -> io::Result<()> {
+    lines::word(rt, "dip")?;
+    lines::row(rt, &[asked::pan_of(q), wanted])?;
+    asked::print(rt, q, wanted)?;
+    lines::end(rt)
 }

@@ -6,6 +6,7 @@ use basin::state::Basin;
 use basin::step;
 use basin_testing::files::Start;
 use basin_testing::{files, plans, weather};
+use std::io;
 use std::num::wrapping_add_u64;
 use testing::chance::next;
 use testing::drafts::Plan;
@@ -14,14 +15,15 @@ use testing::lines;
 // N and M.
 const SIZES: [u64; 8] = [1, 0, 2, 1, 7, 5, 32, 31];
 
-pub fn rows() {
+pub fn rows(rt: &impl Print) -> io::Result<()> {
     let mut x = 1;
     for k in 0..160 {
-        x = row(k, x);
+        x = row(rt, k, x)?;
     }
+    Ok(())
 }
 
-fn row(k: u64, x: u64) -> u64 {
+fn row(rt: &impl Print, k: u64, x: u64) -> io::Result<u64> {
     let size = (k / 20 % 4) as usize;
     let plan = Plan {
         choice: plans::choice(k % 5),
@@ -31,10 +33,10 @@ fn row(k: u64, x: u64) -> u64 {
     };
     let steps = if k < 80 { 0 } else { 8 };
     let s = after(files::started(plan, x), steps);
-    plans::shape_name(k / 5 % 4);
-    plans::choice_name(k % 5);
-    lines::row(&[plan.n, plan.m, steps]);
-    asked_of(s.basin, s.x)
+    plans::shape_name(rt, k / 5 % 4)?;
+    plans::choice_name(rt, k % 5)?;
+    lines::row(rt, &[plan.n, plan.m, steps])?;
+    asked_of(rt, s.basin, s.x)
 }
 
 // Steps in the weather of one spell.
@@ -57,7 +59,7 @@ fn turn(s: Start, spell: u64) -> Start {
 }
 
 // A drawn sub-basin under a drawn pan; hands the generator on.
-fn asked_of(b: Basin, x: u64) -> u64 {
+fn asked_of(rt: &impl Print, b: Basin, x: u64) -> io::Result<u64> {
     let y = next(x);
     let z = next(y);
     let x1 = next(z);
@@ -67,8 +69,8 @@ fn asked_of(b: Basin, x: u64) -> u64 {
         number: one_of(b.n, y),
         pan: pan(y / 1024 % 4, x1, x2),
     };
-    depths(q, asked::greatest(q), y / 4096 % 1001, z);
-    x2
+    depths(rt, q, asked::greatest(q), y / 4096 % 1001, z)?;
+    Ok(x2)
 }
 
 // A number 1..n.
@@ -91,15 +93,15 @@ fn pan(k: u64, x: u64, y: u64) -> f32 {
 
 // The least depths, the greatest that is yielded and the one after it, the greatest of all, a drawn one, and one more than a drawn
 // rain yields.
-fn depths(q: Question, greatest: u64, rain: u64, z: u64) {
-    lines::row(&[q.number, asked::pan_of(q), greatest]);
-    asked::print(q, 0);
-    asked::print(q, 1);
-    asked::print(q, greatest);
-    asked::print(q, wrapping_add_u64(greatest, 1));
-    asked::print(q, 18446744073709551615);
-    asked::print(q, z % (greatest % 1048576 + 1001));
+fn depths(rt: &impl Print, q: Question, greatest: u64, rain: u64, z: u64) -> io::Result<()> {
+    lines::row(rt, &[q.number, asked::pan_of(q), greatest])?;
+    asked::print(rt, q, 0)?;
+    asked::print(rt, q, 1)?;
+    asked::print(rt, q, greatest)?;
+    asked::print(rt, q, wrapping_add_u64(greatest, 1))?;
+    asked::print(rt, q, 18446744073709551615)?;
+    asked::print(rt, q, z % (greatest % 1048576 + 1001))?;
     let yielded = asked::yielded(asked::sub_of(q), rain, asked::pan_of(q));
-    asked::print(q, wrapping_add_u64(yielded, 1));
-    lines::end();
+    asked::print(rt, q, wrapping_add_u64(yielded, 1))?;
+    lines::end(rt)
 }

@@ -9,10 +9,12 @@ mod outside;
 mod records;
 mod refusals;
 
-fn main() {
-    dip::rows();
-    drawn::rows();
-    refusals::rows();
-    outside::rows();
-    records::rows();
+use std::io;
+
+fn main(rt: HostRuntime) -> io::Result<()> {
+    dip::rows(&rt)?;
+    drawn::rows(&rt)?;
+    refusals::rows(&rt)?;
+    outside::rows(&rt)?;
+    records::rows(&rt)
 }

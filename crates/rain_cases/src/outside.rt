@@ -5,6 +5,7 @@ use crate::asked::Question;
 use crate::{asked, refusals};
 use basin::state::Basin;
 use basin_testing::{files, places};
+use std::io;
 use testing::choices::Choice;
 use testing::{drafts, lines};
 
@@ -12,40 +13,41 @@ use testing::{drafts, lines};
 // third, which is unused; next and content of the reach; content of the last reach, which is unused.
 const PLACES: [usize; 12] = [0, 1, 2, 19, 24, 25, 40, 57, 80, 1252, 1253, 1373];
 
-pub fn rows() {
+pub fn rows(rt: &impl Print) -> io::Result<()> {
     let mut x = 1;
     for k in 0..48 {
-        x = row(k, x);
+        x = row(rt, k, x)?;
     }
+    Ok(())
 }
 
-fn row(k: usize, x: u64) -> u64 {
+fn row(rt: &impl Print, k: usize, x: u64) -> io::Result<u64> {
     let place = PLACES[k / 4 % 12];
     let edge = (k % 4) as u64;
     let plan = drafts::chain(Choice::Ordinary, 2, 1);
     let start = files::started(plan, x);
     let b = start.basin;
-    lines::word(b"place");
-    lines::row(&[place as u64, edge]);
-    questions(places::with(b, place, places::edge(b, place, edge)));
-    start.x
+    lines::word(rt, "place")?;
+    lines::row(rt, &[place as u64, edge])?;
+    questions(rt, places::with(b, place, places::edge(b, place, edge)))?;
+    Ok(start.x)
 }
 
-fn questions(b: Basin) {
-    print(b, 2, 2);
-    print(b, 3, 2);
-    print(b, 2, 3);
-    print(b, 2, 7);
-    print(b, 0, 3);
-    print(b, 33, 7);
-    lines::end();
+fn questions(rt: &impl Print, b: Basin) -> io::Result<()> {
+    print(rt, b, 2, 2)?;
+    print(rt, b, 3, 2)?;
+    print(rt, b, 2, 3)?;
+    print(rt, b, 2, 7)?;
+    print(rt, b, 0, 3)?;
+    print(rt, b, 33, 7)?;
+    lines::end(rt)
 }
 
-fn print(basin: Basin, number: u64, pan: u64) {
+fn print(rt: &impl Print, basin: Basin, number: u64, pan: u64) -> io::Result<()> {
     let q = Question {
         basin,
         number,
         pan: refusals::pan(pan),
     };
-    asked::print(q, 5000);
+    asked::print(rt, q, 5000)
 }

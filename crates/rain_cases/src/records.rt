@@ -3,6 +3,7 @@
 use crate::{asked, dip, drawn};
 use basin::state::Basin;
 use basin_testing::{files, places};
+use std::io;
 use subbasin::record::SubBasin;
 use subbasin::yields;
 use testing::choices::Choice;
@@ -10,14 +11,14 @@ use testing::{drafts, lines, rows};
 
 const PANS: [u64; 6] = [0, 1, 99999, 100000, 100001, 18446744073709551615];
 
-pub fn rows() {
+pub fn rows(rt: &impl Print) -> io::Result<()> {
     let plan = drafts::chain(Choice::Ordinary, 1, 0);
     let start = files::started(plan, 1);
     let fresh = start.basin;
     let worn = drawn::after(start, 8);
     let b = worn.basin;
-    numbers(b, rows::PLACES);
-    pans(first(fresh), first(b), 6);
+    numbers(rt, b, rows::PLACES)?;
+    pans(rt, first(fresh), first(b), 6)
 }
 
 fn first(b: Basin) -> SubBasin {
@@ -26,54 +27,57 @@ fn first(b: Basin) -> SubBasin {
 }
 
 // The places 0..count of the first record.
-fn numbers(b: Basin, count: usize) {
+fn numbers(rt: &impl Print, b: Basin, count: usize) -> io::Result<()> {
     for place in 0..count {
-        number(b, place);
+        number(rt, b, place)?;
     }
+    Ok(())
 }
 
-fn number(b: Basin, place: usize) {
-    lines::word(b"number");
-    lines::number(place as u64);
-    edge(b, place, 0);
-    edge(b, place, 1);
-    edge(b, place, 2);
-    edge(b, place, 3);
-    edge(b, place, 4);
-    lines::end();
+fn number(rt: &impl Print, b: Basin, place: usize) -> io::Result<()> {
+    lines::word(rt, "number")?;
+    lines::number(rt, place as u64)?;
+    edge(rt, b, place, 0)?;
+    edge(rt, b, place, 1)?;
+    edge(rt, b, place, 2)?;
+    edge(rt, b, place, 3)?;
+    edge(rt, b, place, 4)?;
+    lines::end(rt)
 }
 
-fn edge(b: Basin, place: usize, which: u64) {
+fn edge(rt: &impl Print, b: Basin, place: usize, which: u64) -> io::Result<()> {
     let at = 2 + place % rows::PLACES;
     print(
+        rt,
         first(places::with(b, at, places::edge(b, at, which))),
         2000,
         5000,
-    );
+    )
 }
 
 // The first count of the pan depths.
-fn pans(fresh: SubBasin, worn: SubBasin, count: usize) {
+fn pans(rt: &impl Print, fresh: SubBasin, worn: SubBasin, count: usize) -> io::Result<()> {
     for k in 0..count {
-        pan(fresh, worn, PANS[k % 6]);
+        pan(rt, fresh, worn, PANS[k % 6])?;
     }
+    Ok(())
 }
 
-fn pan(fresh: SubBasin, worn: SubBasin, pan: u64) {
-    lines::word(b"pan");
-    lines::number(pan);
-    depths(fresh, pan);
-    depths(worn, pan);
-    depths(first(dip::basin()), pan);
-    lines::end();
+fn pan(rt: &impl Print, fresh: SubBasin, worn: SubBasin, pan: u64) -> io::Result<()> {
+    lines::word(rt, "pan")?;
+    lines::number(rt, pan)?;
+    depths(rt, fresh, pan)?;
+    depths(rt, worn, pan)?;
+    depths(rt, first(dip::basin()), pan)?;
+    lines::end(rt)
 }
 
-fn depths(s: SubBasin, pan: u64) {
-    print(s, pan, 0);
-    print(s, pan, 5);
-    print(s, pan, 18446744073709551615);
+fn depths(rt: &impl Print, s: SubBasin, pan: u64) -> io::Result<()> {
+    print(rt, s, pan, 0)?;
+    print(rt, s, pan, 5)?;
+    print(rt, s, pan, 18446744073709551615)
 }
 
-fn print(s: SubBasin, pan: u64, wanted: u64) {
-    asked::told(yields::rain_for(s, pan, wanted), s, pan, wanted);
+fn print(rt: &impl Print, s: SubBasin, pan: u64, wanted: u64) -> io::Result<()> {
+    asked::told(rt, yields::rain_for(s, pan, wanted), s, pan, wanted)
 }

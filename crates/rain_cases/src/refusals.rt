@@ -3,20 +3,22 @@
 use crate::asked;
 use crate::asked::Question;
 use basin_testing::files;
+use std::io;
 use testing::choices::Choice;
 use testing::{drafts, lines};
 
 // N and M.
 const SIZES: [u64; 6] = [1, 0, 2, 1, 32, 31];
 
-pub fn rows() {
+pub fn rows(rt: &impl Print) -> io::Result<()> {
     let mut x = 1;
     for k in 0..144 {
-        x = row(k, x);
+        x = row(rt, k, x)?;
     }
+    Ok(())
 }
 
-fn row(k: u64, x: u64) -> u64 {
+fn row(rt: &impl Print, k: u64, x: u64) -> io::Result<u64> {
     let size = (k / 48 % 3) as usize;
     let plan = drafts::chain(Choice::Ordinary, SIZES[2 * size], SIZES[2 * size + 1]);
     let start = files::started(plan, x);
@@ -26,12 +28,12 @@ fn row(k: u64, x: u64) -> u64 {
         number: number(k / 8 % 6, plan.n),
         pan: pan(k % 8),
     };
-    lines::word(b"asked");
-    lines::row(&[plan.n, q.number, k % 8]);
-    asked::print(q, 0);
-    asked::print(q, 18446744073709551615);
-    lines::end();
-    start.x
+    lines::word(rt, "asked")?;
+    lines::row(rt, &[plan.n, q.number, k % 8])?;
+    asked::print(rt, q, 0)?;
+    asked::print(rt, q, 18446744073709551615)?;
+    lines::end(rt)?;
+    Ok(start.x)
 }
 
 fn number(k: u64, n: u64) -> u64 {

@@ -6,6 +6,7 @@
 
 use basin_testing::files;
 use common::weather::Weather;
+use std::{env, io};
 use subbasin::record::SubBasin;
 use subbasin::step::Stepped;
 use subbasin::yields::Answer;
@@ -13,14 +14,14 @@ use subbasin::{step, yields};
 use testing::choices::Choice;
 use testing::{checksum, choices, drafts, lines, rows};
 
-#[derive(Drop)]
+#[derive(Clone, Copy)]
 enum Way {
     Idle,
     Call,
     None,
 }
 
-#[derive(Drop)]
+#[derive(Clone, Copy)]
 enum State {
     Dry,
     Any,
@@ -31,60 +32,70 @@ enum State {
     Even,
 }
 
-fn main() {
-    let mut word = [0u8; 8];
-    let mut state = [0u8; 8];
-    if os::arg(1, &mut word) == 0 {
-        each(State::Dry);
-        each(State::Any);
-        each(State::Wet);
-        each(State::Large);
-        each(State::Even);
-        return;
+fn main(rt: HostRuntime) -> io::Result<()> {
+    let mut words = env::args(&rt)?;
+    if let Some(word) = words.nth(1) {
+        let state = match words.next() {
+            Some(state) => state_named(state.as_str()),
+            None => State::Any,
+        };
+        return print(&rt, way_named(word.as_str()), state, 100);
     }
-    os::arg(2, &mut state);
-    print(way_named(word[0]), state_named(state[0]), 100);
+    each(&rt, State::Dry)?;
+    each(&rt, State::Any)?;
+    each(&rt, State::Wet)?;
+    each(&rt, State::Large)?;
+    each(&rt, State::Even)
 }
 
-fn each(state: State) {
-    print(Way::Call, state, 1);
-    print(Way::None, state, 1);
+fn each(rt: &impl Print, state: State) -> io::Result<()> {
+    print(rt, Way::Call, state, 1)?;
+    print(rt, Way::None, state, 1)
 }
 
-fn way_named(letter: u8) -> Way {
-    match letter {
-        b'c' => Way::Call,
-        b'n' => Way::None,
+// By its first letter, and so the state.
+fn way_named(word: &str) -> Way {
+    match word.as_bytes() {
+        [b'c', ..] => Way::Call,
+        [b'n', ..] => Way::None,
         _ => Way::Idle,
     }
 }
 
-fn state_named(letter: u8) -> State {
-    match letter {
-        b'd' => State::Dry,
-        b'w' => State::Wet,
-        b'l' => State::Large,
-        b'e' => State::Even,
+fn state_named(word: &str) -> State {
+    match word.as_bytes() {
+        [b'd', ..] => State::Dry,
+        [b'w', ..] => State::Wet,
+        [b'l', ..] => State::Large,
+        [b'e', ..] => State::Even,
         _ => State::Any,
     }
 }
 
 // The checksum of all answers.
-fn print(way: Way, state: State, rounds: u64) {
+fn print(rt: &impl Print, way: Way, state: State, rounds: u64) -> io::Result<()> {
+    name_way(rt, way)?;
+    name_state(rt, state)?;
+    lines::number(rt, taken(way, state, rounds))?;
+    lines::end(rt)
+}
+
+fn name_way(rt: &impl Print, way: Way) -> io::Result<()> {
     match way {
-        Way::Idle => lines::word(b"idle"),
-        Way::Call => lines::word(b"call"),
-        Way::None => lines::word(b"none"),
+        Way::Idle => lines::word(rt, "idle"),
+        Way::Call => lines::word(rt, "call"),
+        Way::None => lines::word(rt, "none"),
     }
+}
+
+fn name_state(rt: &impl Print, state: State) -> io::Result<()> {
     match state {
-        State::Dry => lines::word(b" dry"),
-        State::Any => lines::word(b" any"),
-        State::Wet => lines::word(b" wet"),
-        State::Large => lines::word(b" large"),
-        State::Even => lines::word(b" even"),
+        State::Dry => lines::word(rt, " dry"),
+        State::Any => lines::word(rt, " any"),
+        State::Wet => lines::word(rt, " wet"),
+        State::Large => lines::word(rt, " large"),
+        State::Even => lines::word(rt, " even"),
     }
-    lines::number(taken(way, state, rounds));
-    lines::end();
 }
 
 fn taken(way: Way, state: State, rounds: u64) -> u64 {

@@ -17,7 +17,7 @@ use curve::capacity::Roots;
 use curve::store::Store;
 
 // What a step of a sub-basin gives: number and place are 0 where it is accepted. Depths in µm, q in m³.
-#[derive(Drop)]
+#[derive(Clone, Copy)]
 pub struct Stepped {
     pub number: u64,
     pub place: u64,

@@ -15,7 +15,7 @@ use curve::capacity::Roots;
 const MOST_MM: u64 = 1000;
 
 // A rain that does, or none. Number and place are 0 where the question is accepted; rain is 0 where there is none, or it is refused.
-#[derive(Drop)]
+#[derive(Clone, Copy)]
 pub struct Answer {
     pub number: u64,
     pub place: u64,

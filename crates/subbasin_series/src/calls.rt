@@ -1,12 +1,13 @@
 // A sub-basin call as numbers by place: the record's, then rain and pan; and their ranges.
 use common::weather::Weather;
+use std::io;
 use subbasin::record::{MOST_SLOW, SubBasin};
 use subbasin::step;
 use subbasin::step::Stepped;
 use testing::ranges::Range;
 use testing::{checksum, lines, ranges, rows};
 
-#[derive(Drop)]
+#[derive(Clone, Copy)]
 pub struct Call {
     pub record: SubBasin,
     pub weather: Weather,
@@ -23,22 +24,22 @@ pub fn answer(call: Call) -> Stepped {
 }
 
 // A call and its answer in full, every number of both; hands back the record after.
-pub fn print(call: Call) -> SubBasin {
+pub fn print(rt: &impl Print, call: Call) -> io::Result<SubBasin> {
     let record = call.record;
     let weather = call.weather;
     let given = answer(call);
     let after = given.after;
     let flows = flows_of(given);
-    lines::word(b"step");
-    lines::record(record);
-    lines::number(weather.rain);
-    lines::number(weather.pan);
-    lines::number(given.number);
-    lines::number(given.place);
-    lines::record(after);
-    lines::row(&flows);
-    lines::end();
-    after
+    lines::word(rt, "step")?;
+    lines::record(rt, record)?;
+    lines::number(rt, weather.rain)?;
+    lines::number(rt, weather.pan)?;
+    lines::number(rt, given.number)?;
+    lines::number(rt, given.place)?;
+    lines::record(rt, after)?;
+    lines::row(rt, &flows)?;
+    lines::end(rt)?;
+    Ok(after)
 }
 
 // Every number of an answer: number and place, the record after, the flows.

@@ -6,7 +6,7 @@ use testing::chance::next;
 use testing::choices::Choice;
 use testing::{choices, rows};
 
-#[derive(Drop)]
+#[derive(Clone, Copy)]
 pub enum Pick {
     // By choice, within the ranges of a basin file.
     File(Choice),
@@ -17,7 +17,7 @@ pub enum Pick {
 }
 
 // A record and the generator.
-#[derive(Drop)]
+#[derive(Clone, Copy)]
 pub struct Start {
     pub record: SubBasin,
     pub x: u64,

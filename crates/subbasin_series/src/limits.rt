@@ -2,36 +2,38 @@
 use crate::calls;
 use crate::calls::Call;
 use common::weather::Weather;
+use std::io;
 use subbasin::record::SubBasin;
 use testing::{lines, ranges};
 
 // Places 0..count.
-pub fn places(record: SubBasin, count: usize) {
+pub fn places(rt: &impl Print, record: SubBasin, count: usize) -> io::Result<()> {
     let call = Call {
         record,
         weather: Weather { rain: 0, pan: 0 },
     };
     for place in 0..count {
-        line(call, place);
+        line(rt, call, place)?;
     }
+    Ok(())
 }
 
 // The place, the refusal number of each of the five, and the checksum of their answers.
-fn line(call: Call, place: usize) {
-    lines::word(b"limits");
-    lines::number(place as u64);
+fn line(rt: &impl Print, call: Call, place: usize) -> io::Result<()> {
+    lines::word(rt, "limits")?;
+    lines::number(rt, place as u64)?;
     let range = calls::range_of(call, place);
-    let h1 = told(call, place, calls::outside(call, place, true), 0);
-    let h2 = told(call, place, ranges::edge(range, 1), h1);
-    let h3 = told(call, place, ranges::edge(range, 2), h2);
-    let h4 = told(call, place, ranges::edge(range, 3), h3);
-    let h5 = told(call, place, ranges::edge(range, 4), h4);
-    lines::number(h5);
-    lines::end();
+    let h1 = told(rt, call, place, calls::outside(call, place, true), 0)?;
+    let h2 = told(rt, call, place, ranges::edge(range, 1), h1)?;
+    let h3 = told(rt, call, place, ranges::edge(range, 2), h2)?;
+    let h4 = told(rt, call, place, ranges::edge(range, 3), h3)?;
+    let h5 = told(rt, call, place, ranges::edge(range, 4), h4)?;
+    lines::number(rt, h5)?;
+    lines::end(rt)
 }
 
-fn told(call: Call, place: usize, v: u64, h: u64) -> u64 {
+fn told(rt: &impl Print, call: Call, place: usize, v: u64, h: u64) -> io::Result<u64> {
     let given = calls::answer(calls::with(call, place, v));
-    lines::number(given.number);
-    calls::fold(h, given)
+    lines::number(rt, given.number)?;
+    Ok(calls::fold(h, given))
 }

@@ -1,6 +1,7 @@
 // The series that are run: a line for each, with its name and its checksum.
 use crate::choices::Pick;
 use crate::{basins, choices, series};
+use std::io;
 use subbasin::record;
 use subbasin::record::SubBasin;
 use testing::choices::Choice;
@@ -11,49 +12,56 @@ use testing::{lines, rows};
 const STARTS: usize = 17;
 
 // A sub-basin in every weather.
-pub fn weathers(name: &[u8], start: SubBasin) {
-    named(name, b" ordinary", start, Climate::Ordinary);
-    named(name, b" dry", start, Climate::Dry);
-    named(name, b" wet", start, Climate::Wet);
-    named(name, b" drizzle", start, Climate::Drizzle);
-    named(name, b" mixed", start, Climate::Mixed);
-    named(name, b" spells", start, Climate::Spells);
+pub fn weathers(rt: &impl Print, name: &str, start: SubBasin) -> io::Result<()> {
+    named(rt, name, " ordinary", start, Climate::Ordinary)?;
+    named(rt, name, " dry", start, Climate::Dry)?;
+    named(rt, name, " wet", start, Climate::Wet)?;
+    named(rt, name, " drizzle", start, Climate::Drizzle)?;
+    named(rt, name, " mixed", start, Climate::Mixed)?;
+    named(rt, name, " spells", start, Climate::Spells)
 }
 
 // The middling sub-basin with several numbers at their ends.
-pub fn extremes() {
+pub fn extremes(rt: &impl Print) -> io::Result<()> {
     let start = basins::middling();
-    replaced(b" words least", Choice::Least, 0);
-    replaced(b" words most", Choice::Most, 0);
-    replaced(b" starts least", Choice::Least, STARTS);
-    replaced(b" starts most", Choice::Most, STARTS);
-    extreme(b" one layer", basins::one_layer(70000, 25000));
-    extreme(b" one layer least", basins::one_layer(1, 1));
-    extreme(b" drains whole", basins::drains(32768, 32768));
-    extreme(b" recessions least", basins::recessions(start, 0));
-    extreme(b" recessions most", basins::recessions(start, 65535));
-    extreme(b" brimming", basins::brimming(32768));
+    replaced(rt, " words least", Choice::Least, 0)?;
+    replaced(rt, " words most", Choice::Most, 0)?;
+    replaced(rt, " starts least", Choice::Least, STARTS)?;
+    replaced(rt, " starts most", Choice::Most, STARTS)?;
+    extreme(rt, " one layer", basins::one_layer(70000, 25000))?;
+    extreme(rt, " one layer least", basins::one_layer(1, 1))?;
+    extreme(rt, " drains whole", basins::drains(32768, 32768))?;
+    extreme(rt, " recessions least", basins::recessions(start, 0))?;
+    extreme(rt, " recessions most", basins::recessions(start, 65535))?;
+    extreme(rt, " brimming", basins::brimming(32768))
 }
 
 // The words from a place on by choice.
-fn replaced(name: &[u8], choice: Choice, from: usize) {
+fn replaced(rt: &impl Print, name: &str, choice: Choice, from: usize) -> io::Result<()> {
     extreme(
+        rt,
         name,
         choices::replaced(basins::middling(), choice, from, record::WORDS),
-    );
+    )
 }
 
-fn extreme(name: &[u8], start: SubBasin) {
-    named(b"extreme", name, start, Climate::Spells);
+fn extreme(rt: &impl Print, name: &str, start: SubBasin) -> io::Result<()> {
+    named(rt, "extreme", name, start, Climate::Spells)
 }
 
-fn named(name: &[u8], second: &[u8], start: SubBasin, climate: Climate) {
-    let ran = series::run(start, climate, 1, 5000);
-    lines::word(name);
-    lines::line(second, &[ran.h]);
+fn named(
+    rt: &impl Print,
+    name: &str,
+    second: &str,
+    start: SubBasin,
+    climate: Climate,
+) -> io::Result<()> {
+    let ran = series::run(rt, start, climate, 1, 5000)?;
+    lines::word(rt, name)?;
+    lines::line(rt, second, &[ran.h])
 }
 
-#[derive(Drop)]
+#[derive(Clone, Copy)]
 pub enum Row {
     // The word at a place at its least, then at its most.
     Ends,
@@ -64,35 +72,43 @@ pub enum Row {
 }
 
 // The generator goes on from series to series.
-pub fn rows(row: Row, count: usize) {
+pub fn rows(rt: &impl Print, row: Row, count: usize) -> io::Result<()> {
     let mut x = 1;
     for k in 0..count {
-        x = line(row, k, x);
+        x = line(rt, row, k, x)?;
     }
+    Ok(())
 }
 
-fn line(row: Row, k: usize, x: u64) -> u64 {
+fn line(rt: &impl Print, row: Row, k: usize, x: u64) -> io::Result<u64> {
     match row {
-        Row::Ends => ends(k, x),
-        Row::Corners => drawn(b"corner", Choice::End, Climate::Spells, k, x),
-        Row::Any => drawn(b"any", Choice::Any, Climate::Mixed, k, x),
+        Row::Ends => ends(rt, k, x),
+        Row::Corners => drawn(rt, "corner", Choice::End, Climate::Spells, k, x),
+        Row::Any => drawn(rt, "any", Choice::Any, Climate::Mixed, k, x),
     }
 }
 
-fn ends(place: usize, x: u64) -> u64 {
+fn ends(rt: &impl Print, place: usize, x: u64) -> io::Result<u64> {
     let to = place % record::WORDS + 1;
     let least = choices::replaced(basins::middling(), Choice::Least, place, to);
     let most = choices::replaced(basins::middling(), Choice::Most, place, to);
-    let first = series::run(least, Climate::Spells, x, 1000);
-    let second = series::run(most, Climate::Spells, first.x, 1000);
-    lines::line(b"ends", &[place as u64, first.h, second.h]);
-    second.x
+    let first = series::run(rt, least, Climate::Spells, x, 1000)?;
+    let second = series::run(rt, most, Climate::Spells, first.x, 1000)?;
+    lines::line(rt, "ends", &[place as u64, first.h, second.h])?;
+    Ok(second.x)
 }
 
 // Words and amounts in waiting are drawn, the channel store is empty.
-fn drawn(name: &[u8], choice: Choice, climate: Climate, k: usize, x: u64) -> u64 {
+fn drawn(
+    rt: &impl Print,
+    name: &str,
+    choice: Choice,
+    climate: Climate,
+    k: usize,
+    x: u64,
+) -> io::Result<u64> {
     let start = choices::chosen(basins::case_a(), Pick::File(choice), 0, rows::CHANNEL, x);
-    let ran = series::run(start.record, climate, start.x, 1000);
-    lines::line(name, &[k as u64, ran.h]);
-    ran.x
+    let ran = series::run(rt, start.record, climate, start.x, 1000)?;
+    lines::line(rt, name, &[k as u64, ran.h])?;
+    Ok(ran.x)
 }

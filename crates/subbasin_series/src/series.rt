@@ -1,29 +1,36 @@
 // A series of calls, each on the record that the one before handed back, folded into a checksum.
 use crate::calls;
 use crate::calls::Call;
+use std::io;
 use subbasin::record::SubBasin;
 use testing::chance::next;
 use testing::climate;
 use testing::climate::Climate;
 
 // A series as far as it has come: the record, the generator and the checksum.
-#[derive(Drop)]
+#[derive(Clone, Copy)]
 pub struct Ran {
     pub record: SubBasin,
     pub x: u64,
     pub h: u64,
 }
 
-pub fn run(record: SubBasin, climate: Climate, x: u64, count: usize) -> Ran {
+pub fn run(
+    rt: &impl Print,
+    record: SubBasin,
+    climate: Climate,
+    x: u64,
+    count: usize,
+) -> io::Result<Ran> {
     let mut s = Ran { record, x, h: 0 };
     for i in 0..count {
-        s = turn(s, climate, i);
+        s = turn(rt, s, climate, i)?;
     }
-    s
+    Ok(s)
 }
 
 // Every 16th call is astray, and every 2,500th printed in full.
-fn turn(s: Ran, climate: Climate, i: usize) -> Ran {
+fn turn(rt: &impl Print, s: Ran, climate: Climate, i: usize) -> io::Result<Ran> {
     let x1 = next(s.x);
     let x2 = next(x1);
     let before = s.record;
@@ -32,18 +39,18 @@ fn turn(s: Ran, climate: Climate, i: usize) -> Ran {
         weather: climate::weather(climate, i as u64, x1, x2),
     };
     if i % 16 == 7 {
-        return astray(call, i / 16, x2, s.h);
+        return Ok(astray(call, i / 16, x2, s.h));
     }
     if i % 2500 == 1250 {
-        calls::print(call);
+        calls::print(rt, call)?;
     }
     let given = calls::answer(call);
     let record = given.after;
-    Ran {
+    Ok(Ran {
         record,
         x: x2,
         h: calls::fold(s.h, given),
-    }
+    })
 }
 
 // One number is outside its range, place after place: above it, and in every second round below it. In the record that is handed

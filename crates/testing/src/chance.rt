@@ -5,7 +5,7 @@ pub fn next(x: u64) -> u64 {
 }
 
 // A series as far as it has come: the generator and the checksum.
-#[derive(Drop)]
+#[derive(Clone, Copy)]
 pub struct Drawn {
     pub x: u64,
     pub h: u64,

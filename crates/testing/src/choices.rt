@@ -4,7 +4,7 @@ use crate::ranges::Range;
 use common::amounts;
 use subbasin::record;
 
-#[derive(Drop)]
+#[derive(Clone, Copy)]
 pub enum Choice {
     // Case A of document 01.
     CaseA,

@@ -1,7 +1,7 @@
 // The weather of a step, drawn.
 use common::weather::Weather;
 
-#[derive(Drop)]
+#[derive(Clone, Copy)]
 pub enum Climate {
     Ordinary,
     Dry,

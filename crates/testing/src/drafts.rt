@@ -7,7 +7,7 @@ use crate::spots::{Part, Spot};
 use crate::{choices, files, ranges};
 
 // Every reach flows to the next, to the last, to the one above it in a tree of twos, to any further one, or to one by choice.
-#[derive(Drop)]
+#[derive(Clone, Copy)]
 pub enum Shape {
     Chain,
     Star,
@@ -17,7 +17,7 @@ pub enum Shape {
 }
 
 // What a file is to be.
-#[derive(Drop)]
+#[derive(Clone, Copy)]
 pub struct Plan {
     pub choice: Choice,
     pub shape: Shape,
@@ -36,7 +36,7 @@ pub fn chain(choice: Choice, n: u64, m: u64) -> Plan {
 }
 
 // A file and the generator.
-#[derive(Drop)]
+#[derive(Clone, Copy)]
 pub struct Draft {
     pub file: File,
     pub x: u64,

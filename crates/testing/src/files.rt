@@ -16,7 +16,7 @@ const WORDS: usize = 3 + 32 * record::WORDS + 31 * REACH_WORDS;
 pub const BYTES: usize = 4 * WORDS;
 
 // The file is the first bytes of the buffer, size of them.
-#[derive(Drop)]
+#[derive(Clone, Copy)]
 pub struct File {
     pub bytes: [u8; BYTES],
     pub size: usize,

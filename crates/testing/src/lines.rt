@@ -1,44 +1,44 @@
 // What is printed: words, then numbers in decimal with a space before each.
+use std::io;
 use subbasin::record;
 use subbasin::record::SubBasin;
 
-pub fn word(text: &[u8]) {
-    io::write_all(1, text);
+pub fn word(rt: &impl Print, text: &str) -> io::Result<()> {
+    print!(rt; "{text}")
 }
 
-pub fn number(n: u64) {
-    io::write_all(1, b" ");
-    io::print_decimal(1, n);
+pub fn number(rt: &impl Print, n: u64) -> io::Result<()> {
+    print!(rt; " {n}")
 }
 
 // A number that begins a line.
-pub fn first(n: u64) {
-    io::print_decimal(1, n);
+pub fn first(rt: &impl Print, n: u64) -> io::Result<()> {
+    print!(rt; "{n}")
 }
 
-pub fn row(numbers: &[u64]) {
-    for i in 0..numbers.len() {
-        number(numbers[i]);
+pub fn row(rt: &impl Print, numbers: &[u64]) -> io::Result<()> {
+    for n in numbers {
+        number(rt, *n)?;
     }
+    Ok(())
 }
 
-pub fn end() {
-    io::write_all(1, b"\n");
+pub fn end(rt: &impl Print) -> io::Result<()> {
+    println!(rt; "")
 }
 
 // A whole line.
-pub fn line(name: &[u8], numbers: &[u64]) {
-    word(name);
-    row(numbers);
-    end();
+pub fn line(rt: &impl Print, name: &str, numbers: &[u64]) -> io::Result<()> {
+    word(rt, name)?;
+    row(rt, numbers)?;
+    end(rt)
 }
 
 // A record's words, its amounts in waiting and its channel store.
-pub fn record(s: SubBasin) {
+pub fn record(rt: &impl Print, s: SubBasin) -> io::Result<()> {
     let words = record::words_of(s);
     let line = s.line;
-    let waiting = line.waiting;
-    row(&words);
-    row(&waiting);
-    number(s.channel);
+    row(rt, &words)?;
+    row(rt, &line.waiting)?;
+    number(rt, s.channel)
 }

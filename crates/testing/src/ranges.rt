@@ -4,7 +4,7 @@ use subbasin::record;
 use subbasin::record::SubBasin;
 
 // The least, the most, and what stands below.
-#[derive(Drop)]
+#[derive(Clone, Copy)]
 pub struct Range {
     pub below: u64,
     pub least: u64,

@@ -1,6 +1,6 @@
 // Where a number of a file or of a basin stands.
 
-#[derive(Drop)]
+#[derive(Clone, Copy)]
 pub enum Part {
     // N and M.
     Count,
@@ -9,7 +9,7 @@ pub enum Part {
 }
 
 // The place in N and M, in a sub-basin or in a reach, and the index of that sub-basin or reach, from 0.
-#[derive(Drop)]
+#[derive(Clone, Copy)]
 pub struct Spot {
     pub part: Part,
     pub place: usize,

@@ -4,22 +4,23 @@ use crate::told::Told;
 use crate::{list, told};
 use basin::state::Basin;
 use basin_testing::{files, places, plans, weeks};
+use std::io;
 use testing::choices::Choice;
 use testing::drafts::Plan;
 use testing::lines;
 
 const LENGTHS: [u64; 5] = [0, 32, 33, 64, 224];
 
-pub fn rows() {
+pub fn rows(rt: &impl Print) -> io::Result<()> {
     let mut t = told::start(1);
     for k in 0..8 {
-        t = basin(t, k);
+        t = basin(rt, t, k)?;
     }
-    lines::word(b"brimming");
-    told::compared(t.h, t.g);
+    lines::word(rt, "brimming")?;
+    told::compared(rt, t.h, t.g)
 }
 
-fn basin(t: Told, k: u64) -> Told {
+fn basin(rt: &impl Print, t: Told, k: u64) -> io::Result<Told> {
     let plan = Plan {
         choice: Choice::Most,
         shape: plans::shape(k % 4),
@@ -33,36 +34,36 @@ fn basin(t: Told, k: u64) -> Told {
         h: t.h,
         g: t.g,
     };
-    lists(started, brim, k)
+    lists(rt, started, brim, k)
 }
 
-fn lists(start: Told, b: Basin, k: u64) -> Told {
+fn lists(rt: &impl Print, start: Told, b: Basin, k: u64) -> io::Result<Told> {
     let mut t = start;
     for i in 0..5 {
-        t = list(t, b, k, i);
+        t = list(rt, t, b, k, i)?;
     }
-    t
+    Ok(t)
 }
 
 // The week, and an empty list for the basin that it hands back.
-fn list(t: Told, b: Basin, k: u64, i: usize) -> Told {
+fn list(rt: &impl Print, t: Told, b: Basin, k: u64, i: usize) -> io::Result<Told> {
     let long = LENGTHS[i % 5];
     let list = list::drawn(long as usize, t.x);
     let drawn = list.lines;
-    name(k, long);
-    let first = told::week(t, b, drawn, long, list.x);
+    name(rt, k, long)?;
+    let first = told::week(rt, t, b, drawn, long, list.x)?;
     let ran = weeks::week_of(b, drawn, long);
     let after = ran.basin;
-    name(k, 0);
-    told::week(first, after, drawn, 0, list.x)
+    name(rt, k, 0)?;
+    told::week(rt, first, after, drawn, 0, list.x)
 }
 
-fn name(k: u64, long: u64) {
-    plans::shape_name(k % 4);
+fn name(rt: &impl Print, k: u64, long: u64) -> io::Result<()> {
+    plans::shape_name(rt, k % 4)?;
     if k < 4 {
-        lines::word(b" at once");
+        lines::word(rt, " at once")?;
     } else {
-        lines::word(b" brimming");
+        lines::word(rt, " brimming")?;
     }
-    lines::number(long);
+    lines::number(rt, long)
 }

@@ -2,6 +2,7 @@
 use crate::told::Told;
 use crate::{list, told};
 use basin_testing::files;
+use std::io;
 use testing::choices::Choice;
 use testing::{drafts, lines};
 
@@ -14,16 +15,16 @@ const LENGTHS: [u64; 33] = [
     0, 31, 32, 33, 223, 224, 225, 2015, 2016, 2017, 2048,
 ];
 
-pub fn rows() {
+pub fn rows(rt: &impl Print) -> io::Result<()> {
     let mut t = told::start(1);
     for k in 0..33 {
-        t = row(t, k);
+        t = row(rt, t, k)?;
     }
-    lines::word(b"lists");
-    told::compared(t.h, t.g);
+    lines::word(rt, "lists")?;
+    told::compared(rt, t.h, t.g)
 }
 
-fn row(t: Told, k: usize) -> Told {
+fn row(rt: &impl Print, t: Told, k: usize) -> io::Result<Told> {
     let size = k / 11 % 3;
     let n = SIZES[2 * size];
     let m = SIZES[2 * size + 1];
@@ -33,7 +34,7 @@ fn row(t: Told, k: usize) -> Told {
     let list = list::drawn(long as usize, start.x);
     let basin = start.basin;
     let drawn = list.lines;
-    lines::word(b"list");
-    lines::row(&[n, m, long]);
-    told::week(t, basin, drawn, long, list.x)
+    lines::word(rt, "list")?;
+    lines::row(rt, &[n, m, long])?;
+    told::week(rt, t, basin, drawn, long, list.x)
 }

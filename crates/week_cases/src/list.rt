@@ -4,7 +4,7 @@ use forcing::list::Line;
 use testing::chance::next;
 
 // The buffer and the generator.
-#[derive(Drop)]
+#[derive(Clone, Copy)]
 pub struct List {
     pub lines: [Line; 2048],
     pub x: u64,

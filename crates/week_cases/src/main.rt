@@ -12,11 +12,13 @@ mod refusals;
 mod singly;
 mod told;
 
-fn main() {
-    case_a::row();
-    lengths::rows();
-    refusals::rows();
-    outside::rows();
-    brimming::rows();
-    mixed::rows();
+use std::io;
+
+fn main(rt: HostRuntime) -> io::Result<()> {
+    case_a::row(&rt)?;
+    lengths::rows(&rt)?;
+    refusals::rows(&rt)?;
+    outside::rows(&rt)?;
+    brimming::rows(&rt)?;
+    mixed::rows(&rt)
 }

@@ -5,6 +5,7 @@ use basin::week::Ran;
 use basin_testing::{files, places, plans, weeks};
 use common::amounts;
 use forcing::list::Line;
+use std::io;
 use std::num::wrapping_add_u64;
 use testing::chance::next;
 use testing::drafts::Plan;
@@ -14,7 +15,7 @@ use testing::lines;
 const SIZES: [u64; 12] = [32, 31, 7, 5, 1, 0, 2, 1, 32, 0, 1, 31];
 
 // A list as far as it has come: both basins, the generator, both checksums, and how many steps were accepted.
-#[derive(Drop)]
+#[derive(Clone, Copy)]
 struct Mixed {
     basin: Basin,
     beside: Basin,
@@ -25,14 +26,15 @@ struct Mixed {
 }
 
 // A list for every size and shape.
-pub fn rows() {
+pub fn rows(rt: &impl Print) -> io::Result<()> {
     let mut x = 1;
     for k in 0..24 {
-        x = row(k, x);
+        x = row(rt, k, x)?;
     }
+    Ok(())
 }
 
-fn row(k: u64, x: u64) -> u64 {
+fn row(rt: &impl Print, k: u64, x: u64) -> io::Result<u64> {
     let size = (k / 4 % 6) as usize;
     let plan = Plan {
         choice: plans::choice(k % 5),
@@ -43,6 +45,7 @@ fn row(k: u64, x: u64) -> u64 {
     let start = files::started(plan, x);
     let basin = start.basin;
     let s = entries(
+        rt,
         Mixed {
             basin,
             beside: basin,
@@ -52,24 +55,24 @@ fn row(k: u64, x: u64) -> u64 {
             taken: 0,
         },
         64,
-    );
-    plans::shape_name(k % 4);
-    plans::choice_name(k % 5);
-    lines::row(&[plan.n, plan.m, s.taken]);
-    told::compared(s.h, s.g);
-    s.x
+    )?;
+    plans::shape_name(rt, k % 4)?;
+    plans::choice_name(rt, k % 5)?;
+    lines::row(rt, &[plan.n, plan.m, s.taken])?;
+    told::compared(rt, s.h, s.g)?;
+    Ok(s.x)
 }
 
-fn entries(start: Mixed, count: u64) -> Mixed {
+fn entries(rt: &impl Print, start: Mixed, count: u64) -> io::Result<Mixed> {
     let mut s = start;
     for i in 0..count {
-        s = turn(s, i);
+        s = turn(rt, s, i)?;
     }
-    s
+    Ok(s)
 }
 
 // An entry: how it is taken, its lines, the generator and two draws.
-#[derive(Drop)]
+#[derive(Clone, Copy)]
 struct Entry {
     way: Way,
     lines: [Line; 2048],
@@ -79,7 +82,7 @@ struct Entry {
     z: u64,
 }
 
-#[derive(Drop)]
+#[derive(Clone, Copy)]
 enum Way {
     Step,
     Week,
@@ -87,38 +90,38 @@ enum Way {
     Astray,
 }
 
-fn turn(s: Mixed, i: u64) -> Mixed {
+fn turn(rt: &impl Print, s: Mixed, i: u64) -> io::Result<Mixed> {
     let basin = s.basin;
     let e = drawn(basin.n % 33, s.x);
     let way = e.way;
     let lines = e.lines;
     match way {
-        Way::Step => went_on(s, i, e, singly::one(basin, lines)),
-        Way::Week => went_on(s, i, e, weeks::week_of(basin, lines, e.long)),
-        Way::Astray => astray(s, e),
+        Way::Step => went_on(rt, s, i, e, singly::one(basin, lines)),
+        Way::Week => went_on(rt, s, i, e, weeks::week_of(basin, lines, e.long)),
+        Way::Astray => Ok(astray(s, e)),
     }
 }
 
 // Every eighth entry is printed.
-fn went_on(s: Mixed, i: u64, e: Entry, ran: Ran) -> Mixed {
+fn went_on(rt: &impl Print, s: Mixed, i: u64, e: Entry, ran: Ran) -> io::Result<Mixed> {
     let before = s.beside;
     let lines = e.lines;
     let beside = singly::week(before, lines, e.long);
     if i % 8 == 0 {
-        lines::first(i);
-        lines::number(e.long);
-        told::print(ran);
+        lines::first(rt, i)?;
+        lines::number(rt, e.long)?;
+        told::print(rt, ran)?;
     }
     let basin = ran.basin;
     let second = beside.basin;
-    Mixed {
+    Ok(Mixed {
         basin,
         beside: second,
         x: e.x,
         h: told::fold(s.h, ran),
         g: told::fold(s.g, beside),
         taken: wrapping_add_u64(s.taken, ran.count),
-    }
+    })
 }
 
 fn astray(s: Mixed, e: Entry) -> Mixed {

@@ -3,6 +3,7 @@
 use crate::told::Told;
 use crate::{list, told};
 use basin_testing::{files, places};
+use std::io;
 use testing::choices::Choice;
 use testing::{drafts, lines};
 
@@ -12,16 +13,16 @@ const PLACES: [usize; 10] = [0, 1, 2, 24, 40, 57, 80, 1252, 1253, 1373];
 
 const LENGTHS: [u64; 4] = [0, 14, 15, 2002];
 
-pub fn rows() {
+pub fn rows(rt: &impl Print) -> io::Result<()> {
     let mut t = told::start(1);
     for k in 0..160 {
-        t = row(t, k);
+        t = row(rt, t, k)?;
     }
-    lines::word(b"places");
-    told::compared(t.h, t.g);
+    lines::word(rt, "places")?;
+    told::compared(rt, t.h, t.g)
 }
 
-fn row(t: Told, k: usize) -> Told {
+fn row(rt: &impl Print, t: Told, k: usize) -> io::Result<Told> {
     let place = PLACES[k / 16 % 10];
     let edge = (k / 4 % 4) as u64;
     let long = LENGTHS[k % 4];
@@ -31,7 +32,7 @@ fn row(t: Told, k: usize) -> Told {
     let basin = start.basin;
     let drawn = list.lines;
     let changed = places::with(basin, place, places::edge(basin, place, edge));
-    lines::word(b"place");
-    lines::row(&[place as u64, edge, long]);
-    told::week(t, changed, drawn, long, list.x)
+    lines::word(rt, "place")?;
+    lines::row(rt, &[place as u64, edge, long])?;
+    told::week(rt, t, changed, drawn, long, list.x)
 }

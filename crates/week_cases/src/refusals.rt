@@ -3,19 +3,20 @@
 use crate::told::Told;
 use crate::{list, told};
 use basin_testing::files;
+use std::io;
 use testing::choices::Choice;
 use testing::{drafts, lines};
 
-pub fn rows() {
+pub fn rows(rt: &impl Print) -> io::Result<()> {
     let mut t = told::start(1);
     for k in 0..54 {
-        t = row(t, k);
+        t = row(rt, t, k)?;
     }
-    lines::word(b"bad lines");
-    told::compared(t.h, t.g);
+    lines::word(rt, "bad lines")?;
+    told::compared(rt, t.h, t.g)
 }
 
-fn row(t: Told, k: u64) -> Told {
+fn row(rt: &impl Print, t: Told, k: u64) -> io::Result<Told> {
     let fault = k / 6 % 9;
     let step = k / 2 % 3 * 2;
     let line = k % 2 * 2;
@@ -25,7 +26,7 @@ fn row(t: Told, k: u64) -> Told {
     let basin = start.basin;
     let drawn = list.lines;
     let bad = list::with_bad(drawn, (3 * step + line) as usize, fault);
-    lines::word(b"bad line");
-    lines::row(&[fault, step + 1, line + 1]);
-    told::week(t, basin, bad, 15, list.x)
+    lines::word(rt, "bad line")?;
+    lines::row(rt, &[fault, step + 1, line + 1])?;
+    told::week(rt, t, basin, bad, 15, list.x)
 }

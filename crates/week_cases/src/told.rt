@@ -5,10 +5,11 @@ use basin::week::Ran;
 use basin_testing::checksum::fold_basin;
 use basin_testing::weeks;
 use forcing::list::Line;
+use std::io;
 use testing::{checksum, lines};
 
 // The generator, and the checksums of what weeks hand back and of what the same steps do singly.
-#[derive(Drop)]
+#[derive(Clone, Copy)]
 pub struct Told {
     pub x: u64,
     pub h: u64,
@@ -20,21 +21,28 @@ pub fn start(x: u64) -> Told {
 }
 
 // A week, printed to end a line, and again by single steps; the generator is then x.
-pub fn week(t: Told, b: Basin, lines: [Line; 2048], long: u64, x: u64) -> Told {
+pub fn week(
+    rt: &impl Print,
+    t: Told,
+    b: Basin,
+    lines: [Line; 2048],
+    long: u64,
+    x: u64,
+) -> io::Result<Told> {
     let ran = weeks::week_of(b, lines, long);
-    print(ran);
-    Told {
+    print(rt, ran)?;
+    Ok(Told {
         x,
         h: fold(t.h, ran),
         g: fold(t.g, singly::week(b, lines, long)),
-    }
+    })
 }
 
-pub fn print(ran: Ran) {
+pub fn print(rt: &impl Print, ran: Ran) -> io::Result<()> {
     let basin = ran.basin;
-    lines::row(&numbers(ran));
-    lines::number(fold_basin(0, basin));
-    lines::end();
+    lines::row(rt, &numbers(ran))?;
+    lines::number(rt, fold_basin(0, basin))?;
+    lines::end(rt)
 }
 
 pub fn fold(h: u64, ran: Ran) -> u64 {
@@ -57,11 +65,11 @@ fn numbers(ran: Ran) -> [u64; 8] {
 }
 
 // Both checksums, and whether they are the same, to end a line.
-pub fn compared(h: u64, g: u64) {
-    lines::row(&[h, g]);
+pub fn compared(rt: &impl Print, h: u64, g: u64) -> io::Result<()> {
+    lines::row(rt, &[h, g])?;
     if h == g {
-        lines::word(b" same\n");
+        lines::word(rt, " same\n")
     } else {
-        lines::word(b" not the same\n");
+        lines::word(rt, " not the same\n")
     }
 }

@@ -12,11 +12,12 @@ use common::amounts;
 use curve::capacity;
 use curve::capacity::Roots;
 use forcing::list::Line;
+use std::{env, io};
 use testing::chance::next;
 use testing::choices::Choice;
 use testing::{drafts, lines};
 
-#[derive(Drop)]
+#[derive(Clone, Copy)]
 enum Way {
     Idle,
     Week,
@@ -24,49 +25,57 @@ enum Way {
     Lent,
 }
 
-fn main() {
-    let mut word = [0u8; 8];
-    let mut size = [0u8; 8];
+fn main(rt: HostRuntime) -> io::Result<()> {
     let roots = capacity::printed_roots();
-    if os::arg(1, &mut word) == 0 {
-        each(&roots, 2);
-        each(&roots, 32);
-        return;
+    let mut words = env::args(&rt)?;
+    if let Some(word) = words.nth(1) {
+        let n = match words.next() {
+            Some(size) => sized(size.as_str()),
+            None => 32,
+        };
+        return print(&rt, named(word.as_str()), &roots, n, 100);
     }
-    os::arg(2, &mut size);
-    print(
-        named(word[0]),
-        &roots,
-        if size[0] == b'2' { 2 } else { 32 },
-        100,
-    );
+    each(&rt, &roots, 2)?;
+    each(&rt, &roots, 32)
 }
 
-fn each(roots: &Roots, n: u64) {
-    print(Way::Week, roots, n, 1);
-    print(Way::Steps, roots, n, 1);
-    print(Way::Lent, roots, n, 1);
+fn each(rt: &impl Print, roots: &Roots, n: u64) -> io::Result<()> {
+    print(rt, Way::Week, roots, n, 1)?;
+    print(rt, Way::Steps, roots, n, 1)?;
+    print(rt, Way::Lent, roots, n, 1)
 }
 
-fn named(letter: u8) -> Way {
-    match letter {
-        b'w' => Way::Week,
-        b's' => Way::Steps,
-        b'l' => Way::Lent,
+// By its first letter.
+fn named(word: &str) -> Way {
+    match word.as_bytes() {
+        [b'w', ..] => Way::Week,
+        [b's', ..] => Way::Steps,
+        [b'l', ..] => Way::Lent,
         _ => Way::Idle,
     }
 }
 
-// N and the checksum of the basin reached.
-fn print(way: Way, roots: &Roots, n: u64, count: u64) {
-    match way {
-        Way::Idle => lines::word(b"idle"),
-        Way::Week => lines::word(b"week"),
-        Way::Steps => lines::word(b"steps"),
-        Way::Lent => lines::word(b"lent"),
+fn sized(word: &str) -> u64 {
+    match word.as_bytes() {
+        [b'2', ..] => 2,
+        _ => 32,
     }
-    lines::row(&[n, fold_basin(0, reached(way, roots, n, count))]);
-    lines::end();
+}
+
+// N and the checksum of the basin reached.
+fn print(rt: &impl Print, way: Way, roots: &Roots, n: u64, count: u64) -> io::Result<()> {
+    name(rt, way)?;
+    lines::row(rt, &[n, fold_basin(0, reached(way, roots, n, count))])?;
+    lines::end(rt)
+}
+
+fn name(rt: &impl Print, way: Way) -> io::Result<()> {
+    match way {
+        Way::Idle => lines::word(rt, "idle"),
+        Way::Week => lines::word(rt, "week"),
+        Way::Steps => lines::word(rt, "steps"),
+        Way::Lent => lines::word(rt, "lent"),
+    }
 }
 
 fn reached(way: Way, roots: &Roots, n: u64, count: u64) -> Basin {

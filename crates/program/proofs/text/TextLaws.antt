@@ -1,18 +1,16 @@
--- A number in decimal, as `io::decimal` spells it; and text that is put after text. Assumes nothing.
+-- Text that is put after text, and a number in decimal. Assumes nothing.
 use mathlib.Core.Path.{◌≡◌, refl, sym, ap, ◌∙◌}
 use mathlib.Core.List.{List, [], ◌∷◌, ◌++◌, append_assoc}
-use Prim.Native.Nat.{ℕ, zero, suc, ◌+◌, ◌-◌, ◌/◌, ◌%◌, ◌^◌, ◌≤◌, ◌<◌}
-use native.Mathlib.Nat.{pow-suc, pow-le-pow_right, mod-eq_of_lt, eq-zero-or-pos}
+use Prim.Native.Nat.{ℕ, zero, suc, ◌+◌, ◌/◌, ◌%◌, ◌^◌, ◌≤◌, ◌<◌}
+use native.Mathlib.Nat.{pow-suc}
 use native.Mathlib.Numerals.{add-one}
+use native.Mathlib.Decide.{dec_le}
 use native.Mathlib.Omega.{arith}
-use lib.ListN.{length, get_or, set, take, length-set}
+use lib.ListN.{length, get_or, set, take, length-set, length-append}
 use lib.Seq.{paste, paste-zero, paste-suc, take-paste, take_all}
-use mathlib.Core.Logic.{⊎_elim}
 use borrow.Author.Tests.{lt-ltb, le-ltb}
-use Rattle.io.specs.Counts.{IsPrefixLen}
-use Rattle.io.specs.Digits.{last_digits, IsDigitCount}
 use Rattle.program.specs.Print.{decimal_of, decimal}
-use Rattle.program.specs.Workers.{Begins}
+use Rattle.program.specs.Workers.{IsPrefixLen, Begins}
 
 -- ---- text that is put at a place
 
@@ -54,39 +52,61 @@ put_begins {out = out} c e = record { start_is = ap (λ (k : ℕ). take k out) (
 
 -- ---- a number
 
--- a u64 has at most 20 digits
-pub digits_most : (n k : ℕ) → n < 2 ^ 64 → IsDigitCount 10 1 n k → k ≤ 20
-digits_most n k h f = ⊎_elim (λ e. omega arith) more (eq-zero-or-pos (k - 20))
-  where
-    more : 0 < k - 20 → k ≤ 20
-    more p = omega (arith, pow-le-pow_right {n = 10} (omega arith) {i = 20} {j = k - 1} (omega arith), f.2 (omega arith))
+-- below 10 there is one digit
+last : (most n : ℕ) → n < 10 → decimal_of most n ≡ (48 + n) ∷ []
+unfolding decimal_of
+last zero n h = refl
+last (suc most) n h = rw (lt-ltb n 10 h, decimal_of) refl
 
-digit : (n : ℕ) → n < 10 → last_digits 10 1 n ≡ (48 + n) ∷ []
-digit n h = rw (mod-eq_of_lt h, lt-ltb n 10 h)
+-- from 10 on there are the tenth's digits, and one
+first : (most n : ℕ) → 10 ≤ n → decimal_of (suc most) n ≡ decimal_of most (n / 10) ++ ((48 + n % 10) ∷ [])
+unfolding decimal_of
+first most n h = rw (le-ltb n 10 h, decimal_of) refl
 
-fewest_least : (k n : ℕ) → IsDigitCount 10 1 n (suc (suc k)) → 10 ^ suc k ≤ n
-fewest_least k n f = let e : suc (suc k) - 1 ≡ suc k = omega arith in rw e at (f.2 (omega arith))
+-- any `most` that is no less than n will do
+enough : (most more n : ℕ) → n ≤ most → n ≤ more → decimal_of most n ≡ decimal_of more n
+enough zero more n h g = last zero n (omega arith) ∙ sym (last more n (omega arith))
+enough (suc most) zero n h g = last (suc most) n (omega arith) ∙ sym (last zero n (omega arith))
+enough (suc most) (suc more) n h g =
+    elim (dec_le 10 n) [
+      | yes p ↦
+          first most n p
+          ∙ ap (λ (l : List ℕ). l ++ ((48 + n % 10) ∷ [])) (enough most more (n / 10) (omega arith) (omega arith))
+          ∙ sym (first more n p)
+      | no p ↦ last (suc most) n (omega arith) ∙ sym (last (suc more) n (omega arith))
+    ]
 
-two_digits : (k n : ℕ) → IsDigitCount 10 1 n (suc (suc k)) → 10 ≤ n
-two_digits k n f = omega (arith, fewest_least k n f, pow-le-pow_right {n = 10} (omega arith) {i = 1} {j = suc k} (omega arith))
+pub one_digit : (n : ℕ) → n < 10 → decimal n ≡ (48 + n) ∷ []
+unfolding decimal
+one_digit n h = last n n h
 
 -- all digits but the last are those of the tenth
-tenth_fewest : (k n : ℕ) → IsDigitCount 10 1 n (suc (suc k)) → IsDigitCount 10 1 (n / 10) (suc k)
-tenth_fewest k n f =
-    let e : suc k - 1 ≡ k = omega arith in
-    (omega arith, omega (arith, f.1, pow-suc 10 (suc k)), λ p. rw e (omega (arith, fewest_least k n f, pow-suc 10 k)))
-
--- the fewest digits are those of `decimal`
-digits_of : (k most n : ℕ) → n ≤ most → IsDigitCount 10 1 n k → last_digits 10 k n ≡ decimal_of most n
-unfolding decimal_of
-digits_of zero most n h f = absurd (omega (arith, f.0))
-digits_of (suc zero) zero n h f = digit n (omega (arith, f.1))
-digits_of (suc zero) (suc most) n h f = rw (lt-ltb n 10 (omega (arith, f.1)), decimal_of) (digit n (omega (arith, f.1)))
-digits_of (suc (suc k)) zero n h f = absurd (omega (arith, two_digits k n f))
-digits_of (suc (suc k)) (suc most) n h f =
-    rw (lt-ltb (n % 10) 10 (omega arith), le-ltb n 10 (two_digits k n f), decimal_of)
-    (ap (λ (l : List ℕ). l ++ ((48 + n % 10) ∷ [])) (digits_of (suc k) most (n / 10) (omega (arith, two_digits k n f)) (tenth_fewest k n f)))
-
-pub digits_decimal : (n k : ℕ) → IsDigitCount 10 1 n k → last_digits 10 k n ≡ decimal n
+pub more_digits : (n : ℕ) → 10 ≤ n → decimal n ≡ decimal (n / 10) ++ ((48 + n % 10) ∷ [])
 unfolding decimal
-digits_decimal n k f = digits_of k n n (omega arith) f
+more_digits n h =
+    enough n (suc n) n (omega arith) (omega arith)
+    ∙ first n n h
+    ∙ ap (λ (l : List ℕ). l ++ ((48 + n % 10) ∷ [])) (enough n (n / 10) (n / 10) (omega arith) (omega arith))
+
+-- the last digit, put after those of the tenth
+pub one_more : (t : List ℕ) (n : ℕ) {t' : List ℕ} → 10 ≤ n → t' ≡ t ++ decimal (n / 10) → t' ++ ((48 + n % 10) ∷ []) ≡ t ++ decimal n
+one_more t n h e =
+    ap (λ (l : List ℕ). l ++ ((48 + n % 10) ∷ [])) e
+    ∙ append_assoc t (decimal (n / 10)) ((48 + n % 10) ∷ [])
+    ∙ ap (λ (l : List ℕ). t ++ l) (sym (more_digits n h))
+
+pub digits_more : (n : ℕ) → 10 ≤ n → length (decimal n) ≡ length (decimal (n / 10)) + 1
+digits_more n h = ap length (more_digits n h) ∙ length-append (decimal (n / 10)) ((48 + n % 10) ∷ [])
+
+digits_below : (k n : ℕ) → n < 10 ^ suc k → length (decimal n) ≤ suc k
+digits_below zero n h = let e = ap length (one_digit n (omega arith)) in omega (arith, e)
+digits_below (suc k) n h =
+    elim (dec_le 10 n) [
+      | yes p ↦
+          omega (arith, digits_more n p, digits_below k (n / 10) (omega (arith, pow-suc 10 (suc k))))
+      | no p ↦ let e = ap length (one_digit n (omega arith)) in omega (arith, e)
+    ]
+
+-- a u64 has at most 20 digits
+pub digits_most : (n : ℕ) → n < 2 ^ 64 → length (decimal n) ≤ 20
+digits_most n h = digits_below 19 n (omega arith)
