@@ -2,6 +2,7 @@
 #![tactic(auto)]
 
 use basin::state::Basin;
+use basin::step::{Outcome, Report};
 use basin::{file, step};
 use forcing::list::{Line, Reading};
 use std::{fs, io};
@@ -13,23 +14,24 @@ fn main(rt: HostRuntime) -> io::Result<()> {
         return Ok(()); // refused: loaded.place says where, and loaded.basin is empty
     }
     let monday = day(
-        &rt,
         loaded.basin,
         Reading::Measured(42.5),
         Reading::Measured(120.5),
-    )?;
+    );
+    print(&rt, monday.report)?;
     let tuesday = day(
-        &rt,
-        monday,
+        monday.basin,
         Reading::Estimated(140.0),
         Reading::Measured(1.5),
-    )?;
-    day(&rt, tuesday, Reading::Missing, Reading::Measured(0.0))?;
-    Ok(())
+    );
+    print(&rt, tuesday.report)?;
+    let wednesday = day(tuesday.basin, Reading::Missing, Reading::Measured(0.0));
+    print(&rt, wednesday.report)
 }
 
-// One step, its outlet volume and content printed; hands back the basin for the next. A step takes 32 lines and looks at the first two.
-fn day(rt: &impl Print, basin: Basin, first: Reading, second: Reading) -> io::Result<Basin> {
+// One step: it takes 32 lines and looks at the first two. Its answer has the basin for the next; where its number isn't 0 the step is
+// refused, and that is the basin that it got.
+fn day(basin: Basin, first: Reading, second: Reading) -> Outcome {
     let blank = Line {
         rain: Reading::Missing,
         pan: 0.0,
@@ -43,9 +45,10 @@ fn day(rt: &impl Print, basin: Basin, first: Reading, second: Reading) -> io::Re
         rain: second,
         pan: 3.5,
     };
-    let given = step::step(basin, lines, 2);
-    let outlet = given.report.outlet;
-    let content = given.report.content;
-    println!(rt; "{outlet} {content}")?; // both 0 where given.number isn't: then it is refused, and given.basin is the basin that it got
-    Ok(given.basin)
+    step::step(basin, lines, 2)
+}
+
+// Outlet volume and content, both 0 of a refused step.
+fn print(rt: &impl Print, report: Report) -> io::Result<()> {
+    println!(rt; "{} {}", report.outlet, report.content)
 }
