@@ -8,17 +8,26 @@ fn table() -> Vec<u64> {
     (0..1_024).map(|k| (k * WHOLE).isqrt()).collect()
 }
 
-/// The table as a source file.
+/// The longest line of a source file.
+const WIDTH: usize = 100;
+
+/// The table as a source file, in rows as `rt fmt` lays them out.
 pub fn print(out: &mut impl Write) -> io::Result<()> {
     writeln!(
         out,
         "// Entry k is the greatest r with r * r <= k * 65,536. Written by `model roots`."
     )?;
     writeln!(out, "pub const ROOTS: [u32; 1024] = [")?;
+    let mut row = String::from("   ");
     for root in table() {
-        writeln!(out, "    {root},")?;
+        let entry = format!(" {root},");
+        if row.len() + entry.len() > WIDTH {
+            writeln!(out, "{row}")?;
+            row = String::from("   ");
+        }
+        row += &entry;
     }
-    writeln!(out, "];")
+    writeln!(out, "{row}\n];")
 }
 
 #[cfg(test)]
