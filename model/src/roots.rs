@@ -8,25 +8,26 @@ fn table() -> Vec<u64> {
     (0..1_024).map(|k| (k * WHOLE).isqrt()).collect()
 }
 
-/// The table as a source file.
+/// The longest line of a source file.
+const WIDTH: usize = 100;
+
+/// The table as a source file, in rows as `rt fmt` lays them out.
 pub fn print(out: &mut impl Write) -> io::Result<()> {
     writeln!(
         out,
         "// Entry k is the greatest r with r * r <= k * 65,536. Written by `model roots`."
     )?;
     writeln!(out, "pub const ROOTS: [u32; 1024] = [")?;
-    // Laid out as `rt fmt` does it, in lines of up to 100 letters.
-    let mut line = String::from("   ");
+    let mut row = String::from("   ");
     for root in table() {
-        let word = format!(" {root},");
-        if line.len() + word.len() > 100 {
-            writeln!(out, "{line}")?;
-            line = String::from("   ");
+        let entry = format!(" {root},");
+        if row.len() + entry.len() > WIDTH {
+            writeln!(out, "{row}")?;
+            row = String::from("   ");
         }
-        line += &word;
+        row += &entry;
     }
-    writeln!(out, "{line}")?;
-    writeln!(out, "];")
+    writeln!(out, "{row}\n];")
 }
 
 #[cfg(test)]
