@@ -9,7 +9,13 @@ use std::{fs, io};
 
 fn main(rt: HostRuntime) -> ExitCode {
     let mut said = rt.stderr();
-    let mut ended = program::account(&rt, &mut rt.stdout(), &mut said, "basin.bin", "forcing.bin");
+    let mut ended = program::account(
+        &rt,
+        &mut rt.stdout(),
+        &mut said,
+        b"basin.bin",
+        b"forcing.bin",
+    );
     // Some systems tell of a failed write only when the file is stored.
     if let Err(error) = store(&rt, "/dev/stdout") {
         say::failed(&mut said, b"standard output: could not be stored", error);

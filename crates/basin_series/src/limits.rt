@@ -10,7 +10,7 @@ use testing::spots::Part;
 
 pub fn print(rt: &impl Print, basin: Basin, x: u64) -> io::Result<()> {
     let s = each(rt, Ran { basin, x, h: 0 }, places::PLACES)?;
-    lines::line(rt, "limits", &[s.h])
+    lines::line(rt, b"limits", &[s.h])
 }
 
 // Places 0..count.
@@ -26,7 +26,7 @@ fn each(rt: &impl Print, start: Ran, count: usize) -> io::Result<Ran> {
 fn line(rt: &impl Print, s: Ran, place: usize) -> io::Result<Ran> {
     let shown = is_shown(place);
     if shown {
-        lines::word(rt, "place")?;
+        lines::word(rt, b"place")?;
         lines::number(rt, place as u64)?;
     }
     let s1 = told(rt, s, place, 0, shown)?;

@@ -56,9 +56,9 @@ fn brimming(rt: &impl Print, k: u64, x: u64) -> io::Result<u64> {
     let told = brimming_steps(rt, plans::shape(k % 4), x, at_once)?;
     plans::shape_name(rt, k % 4)?;
     if at_once {
-        lines::line(rt, " at once", &[told.h])?;
+        lines::line(rt, b" at once", &[told.h])?;
     } else {
-        lines::line(rt, " brimming", &[told.h])?;
+        lines::line(rt, b" brimming", &[told.h])?;
     }
     Ok(told.x)
 }

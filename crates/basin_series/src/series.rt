@@ -80,9 +80,9 @@ pub fn fold(h: u64, given: Outcome) -> u64 {
 pub fn print(rt: &impl Print, i: u64, given: Outcome) -> io::Result<()> {
     lines::first(rt, i)?;
     if given.number == 0 {
-        lines::line(rt, " ok", &report_of(given))
+        lines::line(rt, b" ok", &report_of(given))
     } else {
-        lines::line(rt, " refused", &[given.number, given.place])
+        lines::line(rt, b" refused", &[given.number, given.place])
     }
 }
 

@@ -53,7 +53,7 @@ pub fn at(b: Basin, place: usize) -> u64 {
 
 // A basin in full.
 pub fn print(rt: &impl Print, b: Basin) -> io::Result<()> {
-    lines::word(rt, "basin")?;
+    lines::word(rt, b"basin")?;
     numbers(rt, b, PLACES)?;
     lines::end(rt)
 }

@@ -25,19 +25,19 @@ pub fn choice(k: u64) -> Choice {
 
 pub fn shape_name(rt: &impl Print, k: u64) -> io::Result<()> {
     match k {
-        0 => lines::word(rt, "chain"),
-        1 => lines::word(rt, "star"),
-        2 => lines::word(rt, "tree"),
-        _ => lines::word(rt, "any"),
+        0 => lines::word(rt, b"chain"),
+        1 => lines::word(rt, b"star"),
+        2 => lines::word(rt, b"tree"),
+        _ => lines::word(rt, b"any"),
     }
 }
 
 pub fn choice_name(rt: &impl Print, k: u64) -> io::Result<()> {
     match k {
-        0 => lines::word(rt, " ordinary"),
-        1 => lines::word(rt, " least"),
-        2 => lines::word(rt, " most"),
-        3 => lines::word(rt, " ends"),
-        _ => lines::word(rt, " any"),
+        0 => lines::word(rt, b" ordinary"),
+        1 => lines::word(rt, b" least"),
+        2 => lines::word(rt, b" most"),
+        3 => lines::word(rt, b" ends"),
+        _ => lines::word(rt, b" any"),
     }
 }

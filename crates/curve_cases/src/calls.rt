@@ -49,13 +49,13 @@ pub fn fold(h: u64, call: Call, v: [u64; 4]) -> u64 {
 
 pub fn name(rt: &impl Print, call: Call) -> io::Result<()> {
     match call {
-        Call::Root => lines::word(rt, "root"),
-        Call::RootByTable => lines::word(rt, "root_by_table"),
-        Call::Power => lines::word(rt, "power"),
-        Call::PowerByTable => lines::word(rt, "power_by_table"),
-        Call::Held => lines::word(rt, "held"),
-        Call::Ordinate => lines::word(rt, "ordinate"),
-        Call::Store => lines::word(rt, "store"),
+        Call::Root => lines::word(rt, b"root"),
+        Call::RootByTable => lines::word(rt, b"root_by_table"),
+        Call::Power => lines::word(rt, b"power"),
+        Call::PowerByTable => lines::word(rt, b"power_by_table"),
+        Call::Held => lines::word(rt, b"held"),
+        Call::Ordinate => lines::word(rt, b"ordinate"),
+        Call::Store => lines::word(rt, b"store"),
     }
 }
 

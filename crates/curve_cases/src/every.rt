@@ -23,7 +23,7 @@ pub fn shares(rt: &impl Print) -> io::Result<()> {
 }
 
 fn every(rt: &impl Print, call: Call, e: u64) -> io::Result<()> {
-    lines::word(rt, "every ")?;
+    lines::word(rt, b"every ")?;
     line(rt, call, e, folded(call, e))
 }
 
@@ -36,7 +36,7 @@ pub fn exponents(rt: &impl Print) -> io::Result<()> {
 }
 
 fn spread(rt: &impl Print, call: Call, e: u64) -> io::Result<()> {
-    lines::word(rt, "spread ")?;
+    lines::word(rt, b"spread ")?;
     line(rt, call, e, folded_apart(call, e))
 }
 

@@ -10,21 +10,21 @@ use testing::{checksum, lines};
 
 pub fn series(rt: &impl Print) -> io::Result<()> {
     let roots = capacity::printed_roots();
-    line(rt, "printed", &roots)?;
+    line(rt, b"printed", &roots)?;
     let wrong = off_by_one(roots);
-    line(rt, "off by one", &wrong)?;
+    line(rt, b"off by one", &wrong)?;
     let zeros = [0u32; 1024];
-    line(rt, "zeros", &zeros)?;
+    line(rt, b"zeros", &zeros)?;
     let ones = [1u32; 1024];
-    line(rt, "ones", &ones)?;
+    line(rt, b"ones", &ones)?;
     let most = [8191u32; 1024];
-    line(rt, "8191", &most)?;
+    line(rt, b"8191", &most)?;
     let far = [4294967295u32; 1024];
-    line(rt, "4294967295", &far)
+    line(rt, b"4294967295", &far)
 }
 
-fn line(rt: &impl Print, name: &str, roots: &Roots) -> io::Result<()> {
-    lines::word(rt, "lent ")?;
+fn line(rt: &impl Print, name: &[u8], roots: &Roots) -> io::Result<()> {
+    lines::word(rt, b"lent ")?;
     lines::word(rt, name)?;
     lines::number(rt, every_root(roots))?;
     lines::number(rt, folded(roots))?;

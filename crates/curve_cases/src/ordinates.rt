@@ -25,7 +25,7 @@ fn small_curves(rt: &impl Print) -> io::Result<()> {
 }
 
 fn small_line(rt: &impl Print, e: u64) -> io::Result<()> {
-    lines::word(rt, "small")?;
+    lines::word(rt, b"small")?;
     lines::number(rt, e)?;
     lines::number(rt, small(e))?;
     lines::end(rt)
@@ -50,7 +50,7 @@ fn curve(rt: &impl Print, c: u64, m: u64, e: u64) -> io::Result<()>
     requires { c ≤ 500000 }
 {
     let row = [c, m, e, folded(0, c, m, e)];
-    lines::word(rt, "curve")?;
+    lines::word(rt, b"curve")?;
     lines::row(rt, &row)?;
     lines::end(rt)
 }

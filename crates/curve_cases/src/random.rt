@@ -9,7 +9,7 @@ use testing::lines;
 
 pub fn series(rt: &impl Print, call: Call) -> io::Result<()> {
     let h = folded(rt, call)?;
-    lines::word(rt, "series ")?;
+    lines::word(rt, b"series ")?;
     calls::name(rt, call)?;
     lines::number(rt, h)?;
     lines::end(rt)

@@ -56,12 +56,12 @@ fn print(rt: &impl Print, way: Way, roots: &Roots, count: u64) -> io::Result<()>
 
 fn name(rt: &impl Print, way: Way) -> io::Result<()> {
     match way {
-        Way::Idle => lines::word(rt, "idle"),
-        Way::Newton => lines::word(rt, "newton"),
-        Way::Lent => lines::word(rt, "lent"),
-        Way::Made => lines::word(rt, "made"),
-        Way::Search => lines::word(rt, "search"),
-        Way::Worst => lines::word(rt, "worst"),
+        Way::Idle => lines::word(rt, b"idle"),
+        Way::Newton => lines::word(rt, b"newton"),
+        Way::Lent => lines::word(rt, b"lent"),
+        Way::Made => lines::word(rt, b"made"),
+        Way::Search => lines::word(rt, b"search"),
+        Way::Worst => lines::word(rt, b"worst"),
     }
 }
 

@@ -33,7 +33,7 @@ pub fn good(rt: &impl Print, choice: Choice, s: State, i: u64) -> io::Result<Sta
     let s4 = loaded(rt, s3, files::sized(file, size + 1), false)?;
     let s5 = loaded(rt, s4, files::sized(file, size + 4), false)?;
     if m == 31 {
-        lines::line(rt, "good", &[n, s5.h])?;
+        lines::line(rt, b"good", &[n, s5.h])?;
     }
     Ok(s5)
 }
@@ -45,7 +45,7 @@ pub fn size(rt: &impl Print, s: State, i: u64) -> io::Result<State> {
     let size = i % 4096;
     let near = if size < 10 { true } else { own < size + 6 };
     if near {
-        lines::word(rt, "size")?;
+        lines::word(rt, b"size")?;
         lines::number(rt, size)?;
     }
     let after = loaded(rt, s, files::sized(file, size as usize), near)?;
@@ -61,7 +61,7 @@ pub fn counts(rt: &impl Print, s: State, i: u64) -> io::Result<State> {
     let m = COUNTS[(i / 12 % 12) as usize];
     let base = s.file;
     let file = files::with(files::with(base, 0, n), 1, m);
-    lines::word(rt, "counts")?;
+    lines::word(rt, b"counts")?;
     lines::number(rt, n)?;
     lines::number(rt, m)?;
     let s1 = loaded(rt, s, files::sized(file, size_of(n, m)), true)?;
@@ -83,7 +83,7 @@ fn size_of(n: u64, m: u64) -> usize {
 pub fn word(rt: &impl Print, s: State, i: u64, shown: bool) -> io::Result<State> {
     let at = i as usize;
     if shown {
-        lines::word(rt, "word")?;
+        lines::word(rt, b"word")?;
         lines::number(rt, i)?;
     }
     let s1 = edge(rt, s, at, 0, shown)?;
@@ -115,7 +115,7 @@ pub fn shares(rt: &impl Print, s: State, i: u64) -> io::Result<State> {
     let c1 = SHARES[(i / 10 % 10) as usize];
     let file = s.file;
     let at = files::words(2, 1);
-    lines::word(rt, "shares")?;
+    lines::word(rt, b"shares")?;
     lines::number(rt, c0)?;
     lines::number(rt, c1)?;
     let after = loaded(
@@ -134,7 +134,7 @@ pub fn nexts(rt: &impl Print, s: State, i: u64) -> io::Result<State> {
     let v = i % 33;
     let file = s.file;
     if v == 0 {
-        lines::word(rt, "next")?;
+        lines::word(rt, b"next")?;
         lines::number(rt, reach + 1)?;
     }
     let after = loaded(

@@ -23,7 +23,7 @@ fn drawn(s: State) -> State {
 pub fn several(rt: &impl Print, s: State, i: u64) -> io::Result<State> {
     let shown = i % 50 == 0;
     if shown {
-        lines::word(rt, "several")?;
+        lines::word(rt, b"several")?;
     }
     let s1 = outside(
         rt,
@@ -74,7 +74,7 @@ pub fn byte(rt: &impl Print, s: State, i: u64) -> io::Result<State> {
     let at = x1 as usize % (size % 4096 + 1) % files::BYTES;
     bytes[at] = (x2 % 256) as u8;
     if shown {
-        lines::word(rt, "byte")?;
+        lines::word(rt, b"byte")?;
         lines::number(rt, at as u64)?;
         lines::number(rt, x2 % 256)?;
     }

@@ -40,7 +40,7 @@ pub struct State {
 
 pub fn run(
     rt: &impl Print,
-    name: &str,
+    name: &[u8],
     part: Part,
     choice: Choice,
     n: u64,

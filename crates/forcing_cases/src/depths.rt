@@ -59,19 +59,19 @@ pub fn series(rt: &impl Print, part: Part, said: Gauge, count: u64) -> io::Resul
 
 fn gauge(rt: &impl Print, said: Gauge) -> io::Result<()> {
     match said {
-        Gauge::Rain => lines::word(rt, "rain"),
-        Gauge::Pan => lines::word(rt, "pan"),
+        Gauge::Rain => lines::word(rt, b"rain"),
+        Gauge::Pan => lines::word(rt, b"pan"),
     }
 }
 
 fn name(rt: &impl Print, part: Part) -> io::Result<()> {
     match part {
-        Part::Centres => lines::word(rt, " centres"),
-        Part::Halves => lines::word(rt, " halves"),
-        Part::EveryHalf => lines::word(rt, " every half"),
-        Part::EveryExponent => lines::word(rt, " every exponent"),
-        Part::Any => lines::word(rt, " any"),
-        Part::Near => lines::word(rt, " near"),
+        Part::Centres => lines::word(rt, b" centres"),
+        Part::Halves => lines::word(rt, b" halves"),
+        Part::EveryHalf => lines::word(rt, b" every half"),
+        Part::EveryExponent => lines::word(rt, b" every exponent"),
+        Part::Any => lines::word(rt, b" any"),
+        Part::Near => lines::word(rt, b" near"),
     }
 }
 

@@ -15,10 +15,10 @@ use std::io;
 fn main(rt: HostRuntime) -> io::Result<()> {
     depth_calls(&rt, Gauge::Rain, 1000001)?;
     depth_calls(&rt, Gauge::Pan, 100001)?;
-    reads::series(&rt, "faults", Read::Faults, 768)?;
-    reads::series(&rt, "pairs", Read::Pairs, 18432)?;
-    reads::series(&rt, "counts", Read::Counts, 200)?;
-    reads::series(&rt, "any", Read::Any, 20000)
+    reads::series(&rt, b"faults", Read::Faults, 768)?;
+    reads::series(&rt, b"pairs", Read::Pairs, 18432)?;
+    reads::series(&rt, b"counts", Read::Counts, 200)?;
+    reads::series(&rt, b"any", Read::Any, 20000)
 }
 
 // The gauge's limit is below so many µm.

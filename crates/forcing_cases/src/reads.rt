@@ -32,7 +32,7 @@ pub enum Part {
     Any,
 }
 
-pub fn series(rt: &impl Print, name: &str, part: Part, count: u64) -> io::Result<()> {
+pub fn series(rt: &impl Print, name: &[u8], part: Part, count: u64) -> io::Result<()> {
     let s = reads(rt, part, count)?;
     lines::line(rt, name, &[s.h])
 }
@@ -82,7 +82,7 @@ fn fault(rt: &impl Print, s: Drawn, f: u64, at: u64) -> io::Result<Drawn> {
     let last = list::read(with_fault, place + 1, place + 1);
     let past = list::read(with_fault, place, place);
     if at % 10 == 1 {
-        lines::word(rt, "fault")?;
+        lines::word(rt, b"fault")?;
         lines::number(rt, f)?;
         lines::number(rt, at)?;
         told(rt, whole)?;
@@ -109,7 +109,7 @@ fn pair(s: Drawn, f: u64, g: u64, at: u64) -> Drawn {
 fn counts(rt: &impl Print, s: Drawn, n: u64, count: u64, missing: u64) -> io::Result<Drawn> {
     let at = if missing == 0 { 32 } else { 1 };
     let given = list::read(with(good(), at, readings::chosen(0)), count, n);
-    lines::word(rt, "count")?;
+    lines::word(rt, b"count")?;
     lines::number(rt, n)?;
     lines::number(rt, count)?;
     told(rt, given)?;
@@ -140,7 +140,7 @@ fn any(rt: &impl Print, s: Drawn, shown: bool) -> io::Result<Drawn> {
 
 fn print(rt: &impl Print, n: u64, count: u64, given: Forcing) -> io::Result<()> {
     let depths = depths_of(given);
-    lines::word(rt, "read")?;
+    lines::word(rt, b"read")?;
     lines::number(rt, n)?;
     lines::number(rt, count)?;
     told(rt, given)?;

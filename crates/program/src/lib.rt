@@ -15,6 +15,7 @@ ghost use Rattle.program.specs.Workers.{Begins, IsPrefixLen, StartOf, Status};
 
 use basin::file;
 use basin::file::Loaded;
+use std::io::ErrorKind;
 use std::rt::Files;
 use std::{fs, io};
 
@@ -31,8 +32,8 @@ pub fn account<F: Files, W: io::Write, E: io::Write>(
     files: &F,
     to: &mut W,
     said: &mut E,
-    basin: &str,
-    forcing: &str,
+    basin: &[u8],
+    forcing: &[u8],
 ) -> u64
     ensures { Status result }
 {
@@ -46,7 +47,7 @@ pub fn account<F: Files, W: io::Write, E: io::Write>(
         return refuse(to, said, &mut out, start, &bytes[..size], loaded);
     }
     let basin = loaded.basin;
-    let mut file = match fs::open(files, forcing) {
+    let mut file = match open(files, forcing) {
         Ok(file) => file,
         Err(error) => {
             say::failed(said, b"forcing.bin: could not be opened", error);
@@ -55,6 +56,14 @@ pub fn account<F: Files, W: io::Write, E: io::Write>(
     };
     let ran = run::run(&mut file, to, said, basin, &mut out);
     ran.status
+}
+
+// Opens a file to be read. The library's paths are text: one that is none can't be opened.
+fn open<F: Files>(files: &F, path: &[u8]) -> io::Result<F::File> {
+    match str::from_utf8(path) {
+        Ok(text) => fs::open(files, text),
+        Err(_) => Err(io::Error::from(ErrorKind::InvalidInput)),
+    }
 }
 
 // The start of a file, and how its reading ended.
@@ -68,13 +77,13 @@ struct Start {
 fn read_start<F: Files, E: io::Write>(
     files: &F,
     said: &mut E,
-    path: &str,
+    path: &[u8],
     bytes: &mut [u8],
 ) -> Start
     ensures prefix_len { IsPrefixLen result.size bytes.new }
     ensures status { Status result.ended }
 {
-    let mut file = match fs::open(files, path) {
+    let mut file = match open(files, path) {
         Ok(file) => file,
         Err(error) => {
             say::failed(said, b"basin.bin: could not be opened", error);

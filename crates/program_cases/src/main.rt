@@ -29,17 +29,15 @@ fn cases(rt: HostRuntime) -> io::Result<()> {
 
 // The case in the folder of this number.
 fn run(rt: HostRuntime, number: u8) -> io::Result<()> {
-    lines::line(&rt, "case", &[number as u64])?;
-    let basin = format!(in rt.alloc(); "{number:02}/basin.bin")?;
-    let forcing = format!(in rt.alloc(); "{number:02}/forcing.bin")?;
-    let ended = program::account(
-        &rt,
-        &mut rt.stdout(),
-        &mut rt.stderr(),
-        basin.as_str(),
-        forcing.as_str(),
-    );
-    lines::line(&rt, "status", &[ended])
+    lines::line(&rt, b"case", &[number as u64])?;
+    let mut basin = *b"00/basin.bin";
+    basin[0] = b'0' + number / 10 % 10;
+    basin[1] = b'0' + number % 10;
+    let mut forcing = *b"00/forcing.bin";
+    forcing[0] = basin[0];
+    forcing[1] = basin[1];
+    let ended = program::account(&rt, &mut rt.stdout(), &mut rt.stderr(), &basin, &forcing);
+    lines::line(&rt, b"status", &[ended])
 }
 
 // What is said of a file with n sub-basins and m reaches, of every word of it last.

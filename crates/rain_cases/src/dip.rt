@@ -27,7 +27,7 @@ fn under(rt: &impl Print, pan: f32) -> io::Result<()> {
         number: 1,
         pan,
     };
-    lines::word(rt, "yields")?;
+    lines::word(rt, b"yields")?;
     lines::number(rt, asked::pan_of(q))?;
     yields(rt, asked::sub_of(q), asked::pan_of(q), 13)?;
     lines::end(rt)?;
@@ -51,7 +51,7 @@ fn depths(rt: &impl Print, q: Question, count: u64) -> io::Result<()> {
 }
 
 fn row(rt: &impl Print, q: Question, wanted: u64) -> io::Result<()> {
-    lines::word(rt, "dip")?;
+    lines::word(rt, b"dip")?;
     lines::row(rt, &[asked::pan_of(q), wanted])?;
     asked::print(rt, q, wanted)?;
     lines::end(rt)

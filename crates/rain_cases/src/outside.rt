@@ -27,7 +27,7 @@ fn row(rt: &impl Print, k: usize, x: u64) -> io::Result<u64> {
     let plan = drafts::chain(Choice::Ordinary, 2, 1);
     let start = files::started(plan, x);
     let b = start.basin;
-    lines::word(rt, "place")?;
+    lines::word(rt, b"place")?;
     lines::row(rt, &[place as u64, edge])?;
     questions(rt, places::with(b, place, places::edge(b, place, edge)))?;
     Ok(start.x)

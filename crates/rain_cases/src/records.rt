@@ -35,7 +35,7 @@ fn numbers(rt: &impl Print, b: Basin, count: usize) -> io::Result<()> {
 }
 
 fn number(rt: &impl Print, b: Basin, place: usize) -> io::Result<()> {
-    lines::word(rt, "number")?;
+    lines::word(rt, b"number")?;
     lines::number(rt, place as u64)?;
     edge(rt, b, place, 0)?;
     edge(rt, b, place, 1)?;
@@ -64,7 +64,7 @@ fn pans(rt: &impl Print, fresh: SubBasin, worn: SubBasin, count: usize) -> io::R
 }
 
 fn pan(rt: &impl Print, fresh: SubBasin, worn: SubBasin, pan: u64) -> io::Result<()> {
-    lines::word(rt, "pan")?;
+    lines::word(rt, b"pan")?;
     lines::number(rt, pan)?;
     depths(rt, fresh, pan)?;
     depths(rt, worn, pan)?;

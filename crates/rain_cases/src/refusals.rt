@@ -28,7 +28,7 @@ fn row(rt: &impl Print, k: u64, x: u64) -> io::Result<u64> {
         number: number(k / 8 % 6, plan.n),
         pan: pan(k % 8),
     };
-    lines::word(rt, "asked")?;
+    lines::word(rt, b"asked")?;
     lines::row(rt, &[plan.n, q.number, k % 8])?;
     asked::print(rt, q, 0)?;
     asked::print(rt, q, 18446744073709551615)?;

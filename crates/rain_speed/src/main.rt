@@ -82,19 +82,19 @@ fn print(rt: &impl Print, way: Way, state: State, rounds: u64) -> io::Result<()>
 
 fn name_way(rt: &impl Print, way: Way) -> io::Result<()> {
     match way {
-        Way::Idle => lines::word(rt, "idle"),
-        Way::Call => lines::word(rt, "call"),
-        Way::None => lines::word(rt, "none"),
+        Way::Idle => lines::word(rt, b"idle"),
+        Way::Call => lines::word(rt, b"call"),
+        Way::None => lines::word(rt, b"none"),
     }
 }
 
 fn name_state(rt: &impl Print, state: State) -> io::Result<()> {
     match state {
-        State::Dry => lines::word(rt, " dry"),
-        State::Any => lines::word(rt, " any"),
-        State::Wet => lines::word(rt, " wet"),
-        State::Large => lines::word(rt, " large"),
-        State::Even => lines::word(rt, " even"),
+        State::Dry => lines::word(rt, b" dry"),
+        State::Any => lines::word(rt, b" any"),
+        State::Wet => lines::word(rt, b" wet"),
+        State::Large => lines::word(rt, b" large"),
+        State::Even => lines::word(rt, b" even"),
     }
 }
 

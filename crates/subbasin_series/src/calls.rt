@@ -30,7 +30,7 @@ pub fn print(rt: &impl Print, call: Call) -> io::Result<SubBasin> {
     let given = answer(call);
     let after = given.after;
     let flows = flows_of(given);
-    lines::word(rt, "step")?;
+    lines::word(rt, b"step")?;
     lines::record(rt, record)?;
     lines::number(rt, weather.rain)?;
     lines::number(rt, weather.pan)?;

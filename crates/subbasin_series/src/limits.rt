@@ -20,7 +20,7 @@ pub fn places(rt: &impl Print, record: SubBasin, count: usize) -> io::Result<()>
 
 // The place, the refusal number of each of the five, and the checksum of their answers.
 fn line(rt: &impl Print, call: Call, place: usize) -> io::Result<()> {
-    lines::word(rt, "limits")?;
+    lines::word(rt, b"limits")?;
     lines::number(rt, place as u64)?;
     let range = calls::range_of(call, place);
     let h1 = told(rt, call, place, calls::outside(call, place, true), 0)?;

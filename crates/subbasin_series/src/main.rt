@@ -32,8 +32,8 @@ fn main(rt: HostRuntime) -> io::Result<()> {
     step(&rt, basins::case_a(), 20001, 10000)?;
     limits::places(&rt, basins::case_a(), calls::PLACES)?;
     limits::places(&rt, basins::middling(), calls::PLACES)?;
-    plan::weathers(&rt, "case_a", basins::case_a())?;
-    plan::weathers(&rt, "middling", basins::middling())?;
+    plan::weathers(&rt, b"case_a", basins::case_a())?;
+    plan::weathers(&rt, b"middling", basins::middling())?;
     plan::extremes(&rt)?;
     plan::rows(&rt, Row::Ends, record::WORDS)?;
     plan::rows(&rt, Row::Corners, 100)?;

@@ -12,32 +12,32 @@ use testing::{lines, rows};
 const STARTS: usize = 17;
 
 // A sub-basin in every weather.
-pub fn weathers(rt: &impl Print, name: &str, start: SubBasin) -> io::Result<()> {
-    named(rt, name, " ordinary", start, Climate::Ordinary)?;
-    named(rt, name, " dry", start, Climate::Dry)?;
-    named(rt, name, " wet", start, Climate::Wet)?;
-    named(rt, name, " drizzle", start, Climate::Drizzle)?;
-    named(rt, name, " mixed", start, Climate::Mixed)?;
-    named(rt, name, " spells", start, Climate::Spells)
+pub fn weathers(rt: &impl Print, name: &[u8], start: SubBasin) -> io::Result<()> {
+    named(rt, name, b" ordinary", start, Climate::Ordinary)?;
+    named(rt, name, b" dry", start, Climate::Dry)?;
+    named(rt, name, b" wet", start, Climate::Wet)?;
+    named(rt, name, b" drizzle", start, Climate::Drizzle)?;
+    named(rt, name, b" mixed", start, Climate::Mixed)?;
+    named(rt, name, b" spells", start, Climate::Spells)
 }
 
 // The middling sub-basin with several numbers at their ends.
 pub fn extremes(rt: &impl Print) -> io::Result<()> {
     let start = basins::middling();
-    replaced(rt, " words least", Choice::Least, 0)?;
-    replaced(rt, " words most", Choice::Most, 0)?;
-    replaced(rt, " starts least", Choice::Least, STARTS)?;
-    replaced(rt, " starts most", Choice::Most, STARTS)?;
-    extreme(rt, " one layer", basins::one_layer(70000, 25000))?;
-    extreme(rt, " one layer least", basins::one_layer(1, 1))?;
-    extreme(rt, " drains whole", basins::drains(32768, 32768))?;
-    extreme(rt, " recessions least", basins::recessions(start, 0))?;
-    extreme(rt, " recessions most", basins::recessions(start, 65535))?;
-    extreme(rt, " brimming", basins::brimming(32768))
+    replaced(rt, b" words least", Choice::Least, 0)?;
+    replaced(rt, b" words most", Choice::Most, 0)?;
+    replaced(rt, b" starts least", Choice::Least, STARTS)?;
+    replaced(rt, b" starts most", Choice::Most, STARTS)?;
+    extreme(rt, b" one layer", basins::one_layer(70000, 25000))?;
+    extreme(rt, b" one layer least", basins::one_layer(1, 1))?;
+    extreme(rt, b" drains whole", basins::drains(32768, 32768))?;
+    extreme(rt, b" recessions least", basins::recessions(start, 0))?;
+    extreme(rt, b" recessions most", basins::recessions(start, 65535))?;
+    extreme(rt, b" brimming", basins::brimming(32768))
 }
 
 // The words from a place on by choice.
-fn replaced(rt: &impl Print, name: &str, choice: Choice, from: usize) -> io::Result<()> {
+fn replaced(rt: &impl Print, name: &[u8], choice: Choice, from: usize) -> io::Result<()> {
     extreme(
         rt,
         name,
@@ -45,14 +45,14 @@ fn replaced(rt: &impl Print, name: &str, choice: Choice, from: usize) -> io::Res
     )
 }
 
-fn extreme(rt: &impl Print, name: &str, start: SubBasin) -> io::Result<()> {
-    named(rt, "extreme", name, start, Climate::Spells)
+fn extreme(rt: &impl Print, name: &[u8], start: SubBasin) -> io::Result<()> {
+    named(rt, b"extreme", name, start, Climate::Spells)
 }
 
 fn named(
     rt: &impl Print,
-    name: &str,
-    second: &str,
+    name: &[u8],
+    second: &[u8],
     start: SubBasin,
     climate: Climate,
 ) -> io::Result<()> {
@@ -83,8 +83,8 @@ pub fn rows(rt: &impl Print, row: Row, count: usize) -> io::Result<()> {
 fn line(rt: &impl Print, row: Row, k: usize, x: u64) -> io::Result<u64> {
     match row {
         Row::Ends => ends(rt, k, x),
-        Row::Corners => drawn(rt, "corner", Choice::End, Climate::Spells, k, x),
-        Row::Any => drawn(rt, "any", Choice::Any, Climate::Mixed, k, x),
+        Row::Corners => drawn(rt, b"corner", Choice::End, Climate::Spells, k, x),
+        Row::Any => drawn(rt, b"any", Choice::Any, Climate::Mixed, k, x),
     }
 }
 
@@ -94,14 +94,14 @@ fn ends(rt: &impl Print, place: usize, x: u64) -> io::Result<u64> {
     let most = choices::replaced(basins::middling(), Choice::Most, place, to);
     let first = series::run(rt, least, Climate::Spells, x, 1000)?;
     let second = series::run(rt, most, Climate::Spells, first.x, 1000)?;
-    lines::line(rt, "ends", &[place as u64, first.h, second.h])?;
+    lines::line(rt, b"ends", &[place as u64, first.h, second.h])?;
     Ok(second.x)
 }
 
 // Words and amounts in waiting are drawn, the channel store is empty.
 fn drawn(
     rt: &impl Print,
-    name: &str,
+    name: &[u8],
     choice: Choice,
     climate: Climate,
     k: usize,

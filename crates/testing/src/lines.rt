@@ -3,8 +3,8 @@ use std::io;
 use subbasin::record;
 use subbasin::record::SubBasin;
 
-pub fn word(rt: &impl Print, text: &str) -> io::Result<()> {
-    print!(rt; "{text}")
+pub fn word(rt: &impl Print, text: &[u8]) -> io::Result<()> {
+    rt.write_all(text)
 }
 
 pub fn number(rt: &impl Print, n: u64) -> io::Result<()> {
@@ -28,7 +28,7 @@ pub fn end(rt: &impl Print) -> io::Result<()> {
 }
 
 // A whole line.
-pub fn line(rt: &impl Print, name: &str, numbers: &[u64]) -> io::Result<()> {
+pub fn line(rt: &impl Print, name: &[u8], numbers: &[u64]) -> io::Result<()> {
     word(rt, name)?;
     row(rt, numbers)?;
     end(rt)

@@ -16,7 +16,7 @@ pub fn rows(rt: &impl Print) -> io::Result<()> {
     for k in 0..8 {
         t = basin(rt, t, k)?;
     }
-    lines::word(rt, "brimming")?;
+    lines::word(rt, b"brimming")?;
     told::compared(rt, t.h, t.g)
 }
 
@@ -61,9 +61,9 @@ fn list(rt: &impl Print, t: Told, b: Basin, k: u64, i: usize) -> io::Result<Told
 fn name(rt: &impl Print, k: u64, long: u64) -> io::Result<()> {
     plans::shape_name(rt, k % 4)?;
     if k < 4 {
-        lines::word(rt, " at once")?;
+        lines::word(rt, b" at once")?;
     } else {
-        lines::word(rt, " brimming")?;
+        lines::word(rt, b" brimming")?;
     }
     lines::number(rt, long)
 }

@@ -13,9 +13,9 @@ pub fn row(rt: &impl Print) -> io::Result<()> {
     let mut given = [line(Reading::Missing, 0.0); 2048];
     given[0] = line(Reading::Measured(135.0), 0.0);
     given[2] = line(Reading::Measured(0.0), 10.0);
-    lines::word(rt, "case A")?;
+    lines::word(rt, b"case A")?;
     let t = told::week(rt, told::start(1), basin, given, 3, start.x)?;
-    lines::word(rt, "case A")?;
+    lines::word(rt, b"case A")?;
     told::compared(rt, t.h, t.g)
 }
 

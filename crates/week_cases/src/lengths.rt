@@ -20,7 +20,7 @@ pub fn rows(rt: &impl Print) -> io::Result<()> {
     for k in 0..33 {
         t = row(rt, t, k)?;
     }
-    lines::word(rt, "lists")?;
+    lines::word(rt, b"lists")?;
     told::compared(rt, t.h, t.g)
 }
 
@@ -34,7 +34,7 @@ fn row(rt: &impl Print, t: Told, k: usize) -> io::Result<Told> {
     let list = list::drawn(long as usize, start.x);
     let basin = start.basin;
     let drawn = list.lines;
-    lines::word(rt, "list")?;
+    lines::word(rt, b"list")?;
     lines::row(rt, &[n, m, long])?;
     told::week(rt, t, basin, drawn, long, list.x)
 }

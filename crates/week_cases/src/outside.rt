@@ -18,7 +18,7 @@ pub fn rows(rt: &impl Print) -> io::Result<()> {
     for k in 0..160 {
         t = row(rt, t, k)?;
     }
-    lines::word(rt, "places")?;
+    lines::word(rt, b"places")?;
     told::compared(rt, t.h, t.g)
 }
 
@@ -32,7 +32,7 @@ fn row(rt: &impl Print, t: Told, k: usize) -> io::Result<Told> {
     let basin = start.basin;
     let drawn = list.lines;
     let changed = places::with(basin, place, places::edge(basin, place, edge));
-    lines::word(rt, "place")?;
+    lines::word(rt, b"place")?;
     lines::row(rt, &[place as u64, edge, long])?;
     told::week(rt, t, changed, drawn, long, list.x)
 }

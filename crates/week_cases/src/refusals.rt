@@ -12,7 +12,7 @@ pub fn rows(rt: &impl Print) -> io::Result<()> {
     for k in 0..54 {
         t = row(rt, t, k)?;
     }
-    lines::word(rt, "bad lines")?;
+    lines::word(rt, b"bad lines")?;
     told::compared(rt, t.h, t.g)
 }
 
@@ -26,7 +26,7 @@ fn row(rt: &impl Print, t: Told, k: u64) -> io::Result<Told> {
     let basin = start.basin;
     let drawn = list.lines;
     let bad = list::with_bad(drawn, (3 * step + line) as usize, fault);
-    lines::word(rt, "bad line")?;
+    lines::word(rt, b"bad line")?;
     lines::row(rt, &[fault, step + 1, line + 1])?;
     told::week(rt, t, basin, bad, 15, list.x)
 }

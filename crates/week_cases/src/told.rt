@@ -68,8 +68,8 @@ fn numbers(ran: Ran) -> [u64; 8] {
 pub fn compared(rt: &impl Print, h: u64, g: u64) -> io::Result<()> {
     lines::row(rt, &[h, g])?;
     if h == g {
-        lines::word(rt, " same\n")
+        lines::word(rt, b" same\n")
     } else {
-        lines::word(rt, " not the same\n")
+        lines::word(rt, b" not the same\n")
     }
 }

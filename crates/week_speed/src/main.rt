@@ -71,10 +71,10 @@ fn print(rt: &impl Print, way: Way, roots: &Roots, n: u64, count: u64) -> io::Re
 
 fn name(rt: &impl Print, way: Way) -> io::Result<()> {
     match way {
-        Way::Idle => lines::word(rt, "idle"),
-        Way::Week => lines::word(rt, "week"),
-        Way::Steps => lines::word(rt, "steps"),
-        Way::Lent => lines::word(rt, "lent"),
+        Way::Idle => lines::word(rt, b"idle"),
+        Way::Week => lines::word(rt, b"week"),
+        Way::Steps => lines::word(rt, b"steps"),
+        Way::Lent => lines::word(rt, b"lent"),
     }
 }
 
