@@ -6,7 +6,7 @@ use basin::state::Basin;
 use basin::week::Ran;
 use forcing::list::Line;
 
-// On the first `long` lines, and at most all.
+// On the first `long` lines, and at most all. A caller holds arrays alone.
 pub fn week_of(b: Basin, lines: [Line; 2048], long: u64) -> Ran
     ensures { result ≡ week_call b (take (min long 2048) lines) }
 {

@@ -5,11 +5,14 @@ use basin::state::Basin;
 use basin::step::{Outcome, Report};
 use basin::{file, step};
 use forcing::list::{Line, Reading};
+use std::io::Read;
 use std::{fs, io};
 
 fn main(rt: HostRuntime) -> io::Result<()> {
-    let bytes = fs::read(&rt, "basin.bin")?;
-    let loaded = file::load(bytes.as_slice());
+    let mut bytes = [0u8; 4096]; // more than any legal file has
+    let size = fs::metadata(&rt, "basin.bin")?.len().min(4096) as usize;
+    fs::open(&rt, "basin.bin")?.read_exact(&mut bytes[..size])?;
+    let loaded = file::load(&bytes[..size]);
     if loaded.number != 0 {
         return Ok(()); // refused: loaded.place says where, and loaded.basin is empty
     }
