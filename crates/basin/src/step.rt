@@ -140,6 +140,7 @@ struct Subs {
 }
 
 // The steps of sub-basins 1..N.
+#[tactic(auto, using(crate::proofs::step::SubsLaws::stepping_fits))]
 fn step_subs(roots: &Roots, before: [SubBasin; 32], weather: [Weather; 32], n: u64, m: u64) -> Subs
     requires { (n ≤ 32) × (m ≤ 31) × Weathers weather }
     ensures { SubsOf (subs_only n m before) weather result }

@@ -5,35 +5,8 @@ use Rattle.basin.proofs.network.route.Goals as goal
 pub loop-i-init : goal.loop-i-init
 loop-i-init c = routing_begin _ _ _ c.requires (search) (search)
 
-pub overflow_add-j : goal.overflow_add-j
-overflow_add-j c = omega (arith, c.loop-i.invariant.flowing.m_most)
-
-pub offset_bounds-after-at : goal.offset_bounds-after-at
-offset_bounds-after-at c = omega (arith, c.loop-i.invariant.flowing.m_most)
-
-pub bounds-after-at : goal.bounds-after-at
-bounds-after-at c = omega (arith, c.loop-i.invariant.flowing.m_most)
-
-pub offset_bounds-pending-j : goal.offset_bounds-pending-j
-offset_bounds-pending-j c = omega (arith, c.loop-i.invariant.flowing.m_most)
-
-pub bounds-pending-j : goal.bounds-pending-j
-bounds-pending-j c = omega (arith, c.loop-i.invariant.flowing.m_most)
-
 pub pass-p-requires : goal.pass-p-requires
 pass-p-requires c = passing_here _ _ _ c.loop-i.invariant c.loop-i-test.true _
-
-pub offset_bounds-after-at-in-loop-i : goal.offset_bounds-after-at-in-loop-i
-offset_bounds-after-at-in-loop-i c = omega (arith, c.loop-i.invariant.flowing.m_most)
-
-pub bounds-after-at-in-loop-i : goal.bounds-after-at-in-loop-i
-bounds-after-at-in-loop-i c = omega (arith, c.loop-i.invariant.flowing.m_most)
-
-pub offset_bounds-pending-j-in-loop-i : goal.offset_bounds-pending-j-in-loop-i
-offset_bounds-pending-j-in-loop-i c = omega (arith, c.loop-i.invariant.flowing.m_most)
-
-pub bounds-pending-j-in-loop-i : goal.bounds-pending-j-in-loop-i
-bounds-pending-j-in-loop-i c = omega (arith, c.loop-i.invariant.flowing.m_most)
 
 pub bounds-pending-to : goal.bounds-pending-to
 bounds-pending-to c = next_here _ _ _ c.loop-i.invariant c.loop-i-test.true _
@@ -52,9 +25,6 @@ offset_bounds-pending-to-in-loop-i c = omega (arith, bounds-pending-to-in-loop-i
 
 pub overflow_add-held : goal.overflow_add-held
 overflow_add-held c = omega (arith, held_fits _ _ _ c.loop-i.invariant c.loop-i-test.true _ c.pass-p.ensures)
-
-pub overflow_add-i : goal.overflow_add-i
-overflow_add-i c = omega (arith, c.loop-i.invariant.flowing.m_most)
 
 pub loop-i-preserved : goal.loop-i-preserved
 loop-i-preserved c = routing_turn _ _ _ c.loop-i.invariant c.loop-i-test.true _ c.pass-p.ensures
