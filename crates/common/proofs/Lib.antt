@@ -2,6 +2,7 @@
 pub mod Limits
 pub mod Loops
 pub mod Tables
+pub mod Refusals
 pub mod Greatest
 pub mod Smallest
 pub mod Cases

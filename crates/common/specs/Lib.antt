@@ -6,3 +6,4 @@ pub mod Amounts
 pub mod Loops
 pub mod Bytes
 pub mod Cases
+pub mod Refusals

@@ -3,5 +3,6 @@
 
 pub mod amounts;
 pub mod bytes;
+pub mod refusal;
 pub mod shares;
 pub mod weather;

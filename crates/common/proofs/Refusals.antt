@@ -1,0 +1,18 @@
+-- The refusals' numbers: none is 0. Assumes nothing.
+use Rattle.std.proofs.Common.{◌<◌, arith}
+use Rattle.common.specs.declared.refusal.Refusal.{Refusal}
+use Rattle.common.specs.declared.refusal.Refusal.TheVariants.{FewBytes, Counts, Length, Word, LineCount, RainMissing, BadNumber, AboveLimit, BadBasin, OutOfRange, NoSuchSubBasin}
+use Rattle.common.specs.Refusals.{number_of}
+
+pub number_some : (r : Refusal) → 0 < number_of r
+number_some FewBytes = omega arith
+number_some Counts = omega arith
+number_some Length = omega arith
+number_some Word = omega arith
+number_some LineCount = omega arith
+number_some RainMissing = omega arith
+number_some BadNumber = omega arith
+number_some AboveLimit = omega arith
+number_some BadBasin = omega arith
+number_some OutOfRange = omega arith
+number_some NoSuchSubBasin = omega arith
