@@ -20,14 +20,5 @@ pub fn word(bytes: &[u8], i: u64) -> u64
 fn byte(bytes: &[u8], at: usize) -> u64
     ensures { (result ≡ get_or bytes.now at 0) × (result < 256) }
 {
-    if at < bytes.len() {
-        return wide(bytes[at]);
-    }
-    0
-}
-
-fn wide(x: u8) -> u64
-    ensures { (result ≡ x) × (result < 256) }
-{
-    x as u64
+    bytes.get(at).map_or(0, |&b| u64::from(b))
 }

@@ -1,14 +1,14 @@
-use Rattle.common.proofs.amounts.AmountLaws.{look_begin, look_turn, look_stop, look_end}
+-- `common::amounts::up_to` meets its contract. Assumes nothing.
+use Rattle.std.proofs.Common.{rules, tests, ◌∙◌, leb}
+use Rattle.std.proofs.lemmas.Iterator.{YieldsList-from_slice}
+use Rattle.std.proofs.lemmas.Iterator.Adapters.{YieldsList-from_skip}
+use Rattle.std.proofs.lemmas.Iterator.Search.{all_from_yields_List}
+use Rattle.common.proofs.amounts.AmountLaws.{all_listed}
 use Rattle.common.proofs.amounts.up_to.Goals as goal
 
-pub loop-i-init : goal.loop-i-init
-loop-i-init c = look_begin
-
-pub returns-then-bound-xs : goal.returns-then-bound-xs
-returns-then-bound-xs c = look_stop c.loop-i.invariant c.loop-i-test.true c.if-bound-xs.true
-
-pub loop-i-preserved : goal.loop-i-preserved
-loop-i-preserved c = look_turn c.loop-i.invariant c.loop-i-test.true c.if-bound-xs.false
-
 pub returns : goal.returns
-returns c = look_end c.loop-i.invariant c.loop-i-test.false
+returns c =
+    all_from_yields_List (λ x. leb x c.args.bound) _ _ _ c.all.ensures.ran
+    (YieldsList-from_skip c.args.from (YieldsList-from_slice c.args.xs.now cc) cc)
+    (λ x b q k. search (rules, tests))
+    ∙ all_listed _ _
