@@ -1,16 +1,11 @@
 // One number in millimetres: document 01, "The forcing list", and the depth call of "Who sent it".
-ghost use Rattle.std.specs.Prelude.{◌≡◌, ◌^◌, ◌≤◌, ◌<◌};
+ghost use Rattle.std.specs.Prelude.{◌≡◌, ◌^◌};
 ghost use Rattle.std.specs.Float.{binary32};
 ghost use Rattle.std.specs.Float.Ieee.{of_bits};
-ghost use Rattle.forcing.specs.Depth.{number_of, depth_of, limit_of, as_depth, answer_by, depth_call, JudgedNumber};
+ghost use Rattle.forcing.specs.Depth.{limit_of, as_depth, depth_call, JudgedNumber};
 ghost use Rattle.forcing.specs.Workers.{Scaled, of_fraction};
 
 use common::refusal::Refusal;
-
-// The limits of rain and pan, in millimetres.
-const MOST_RAIN_MM: u64 = 1000;
-
-const MOST_PAN_MM: u64 = 100;
 
 // What a number is said to be: it decides the limit.
 #[derive(Clone, Copy)]
@@ -20,42 +15,40 @@ pub enum Gauge {
 }
 
 impl Gauge {
+    // The limit in millimetres.
     fn limit(self) -> u64
         ensures { result ≡ limit_of self }
     {
         match self {
-            Gauge::Rain => MOST_RAIN_MM,
-            Gauge::Pan => MOST_PAN_MM,
+            Gauge::Rain => 1000,
+            Gauge::Pan => 100,
         }
     }
 }
 
 // The depth call on one number in millimetres, said to be rain or pan: the depth in µm.
-#[tactic(auto, using(crate::proofs::depth::DepthLaws::call_judged), unfolding(crate::specs::Depth::depth_call))]
 pub fn depth_of(x: f32, said: Gauge) -> Result<u64, Refusal>
     ensures answered { as_depth result ≡ depth_call x said }
     ensures judged { JudgedNumber x said (as_depth result) }
 {
-    judge(x, said.limit())
-}
-
-// One number in millimetres, by its limit.
-fn judge(x: f32, limit: u64) -> Result<u64, Refusal>
-    requires { (1 ≤ limit) × (limit ≤ 1000) }
-    ensures { as_depth result ≡ answer_by (number_of limit x) (depth_of x) }
-{
-    if x != x {
+    if x.is_nan() {
         return Err(Refusal::BadNumber);
     }
-    judge_bits(u64::from(f32::to_bits(x)), limit)
+    judge_bits(x.to_bits(), said)
 }
 
 // Sign, exponent and fraction are taken from the 32 bits. The number is significand / 2^places: the fraction over 2^149 where
 // the exponent is 0, and otherwise the fraction with a leading digit before it, over 2^(150 - exponent).
-fn judge_bits(bits: u64, limit: u64) -> Result<u64, Refusal>
-    requires { (bits < 2 ^ 32) × (1 ≤ limit) × (limit ≤ 1000) }
-    ensures { as_depth result
-        ≡ answer_by (number_of limit (of_bits binary32 bits)) (depth_of (of_bits binary32 bits)) }
+#[tactic(auto, using(
+    crate::proofs::depth::ValueLaws::infinite_bits,
+    crate::proofs::depth::ValueLaws::minus_zero_bits,
+    crate::proofs::depth::ValueLaws::negative_bits,
+    crate::proofs::depth::ValueLaws::subnormal_bits,
+    crate::proofs::depth::ValueLaws::large_bits,
+    crate::proofs::depth::ValueLaws::normal_bits,
+))]
+fn judge_bits(bits: u32, said: Gauge) -> Result<u64, Refusal>
+    ensures { as_depth result ≡ depth_call (of_bits binary32 bits) said }
 {
     let exponent = (bits >> 23) & 0xff;
     let fraction = bits & 0x7f_ffff;
@@ -70,25 +63,32 @@ fn judge_bits(bits: u64, limit: u64) -> Result<u64, Refusal>
         return Err(Refusal::BadNumber);
     }
     if exponent == 0 {
-        return scaled(fraction, 149, limit);
+        return scaled(fraction, 149, said);
     }
     // From 1,024 on, above any limit.
     if 136 < exponent {
         return Err(Refusal::AboveLimit);
     }
-    scaled(0x80_0000 + fraction, 150 - exponent, limit)
+    scaled(0x80_0000 + fraction, 150 - exponent, said)
 }
 
 // The number significand / 2^places, by its limit.
-fn scaled(significand: u64, places: u64, limit: u64) -> Result<u64, Refusal>
-    requires { Scaled significand places limit }
-    ensures { as_depth result ≡ of_fraction limit significand (2 ^ places) }
+#[tactic(auto, using(
+    crate::proofs::depth::FractionLaws::small_fraction,
+    crate::proofs::depth::FractionLaws::over_limit,
+    crate::proofs::depth::FractionLaws::within_limit,
+    crate::proofs::depth::FractionLaws::half_le,
+))]
+fn scaled(significand: u32, places: u32, said: Gauge) -> Result<u64, Refusal>
+    requires { Scaled significand places }
+    ensures { as_depth result ≡ of_fraction (limit_of said) significand (2 ^ places) }
 {
     // Below half a µm.
     if 34 < places {
         return Ok(0);
     }
-    if limit << places < significand {
+    let significand = u64::from(significand);
+    if said.limit() << places < significand {
         return Err(Refusal::AboveLimit);
     }
     Ok((1000 * significand + (1 << (places - 1))) >> places)

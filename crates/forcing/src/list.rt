@@ -1,8 +1,9 @@
 // The lines of one step: document 01, "The forcing list", and refusals 5 to 8 of "Who sent it".
 ghost use Rattle.std.specs.Prelude.{◌≡◌, IfOk, IfErr};
+ghost use Rattle.std.specs.Int.{from_bool};
 ghost use Rattle.common.specs.Refusals.{number_of};
 ghost use Rattle.forcing.specs.Depth.{as_depth, answer_by};
-ghost use Rattle.forcing.specs.List.{weather_of, rain_number, rain_depth, line_number, as_forcing, reading, JudgedList};
+ghost use Rattle.forcing.specs.List.{weather_of, rain_number, rain_depth, line_number, estimated_of, as_forcing, reading, JudgedList};
 
 use crate::depth;
 use crate::depth::Gauge;
@@ -18,17 +19,10 @@ pub enum Reading {
 }
 
 impl Reading {
-    ghost use Rattle.forcing.specs.List.{estimated_of};
-
-    // 1 of an estimated reading, 0 of any other.
-    fn mark(self) -> u64
-        ensures { result ≡ estimated_of self }
+    fn is_estimated(self) -> bool
+        ensures { from_bool result ≡ estimated_of self }
     {
-        match self {
-            Reading::Measured(_) => 0,
-            Reading::Estimated(_) => 1,
-            Reading::Missing => 0,
-        }
+        matches!(self, Reading::Estimated(_))
     }
 }
 
@@ -78,7 +72,7 @@ pub fn read(lines: [Line; 32], count: u64, n: u64) -> Result<Readings, Refused>
                 return Err(Refused { why, place: at + 1 });
             }
         }
-        estimated += line.rain.mark();
+        estimated += u64::from(line.rain.is_estimated());
     }
     Ok(Readings { estimated, weather })
 }
@@ -98,8 +92,7 @@ fn judge_rain(reading: Reading) -> Result<u64, Refusal>
     ensures { as_depth result ≡ answer_by (rain_number reading) (rain_depth reading) }
 {
     match reading {
-        Reading::Measured(x) => depth::depth_of(x, Gauge::Rain),
-        Reading::Estimated(x) => depth::depth_of(x, Gauge::Rain),
+        Reading::Measured(x) | Reading::Estimated(x) => depth::depth_of(x, Gauge::Rain),
         Reading::Missing => Err(Refusal::RainMissing),
     }
 }

@@ -84,7 +84,7 @@ returns-in-Err c =
 pub loop-at-preserved : goal.loop-at-preserved
 loop-at-preserved c =
     turn c.loop-at.invariant c.if-count-n.false c.well_formed.0.1.0.1 c.loop-at-test.true c.if-at-gt31.false _
-    c.in-Ok.ensures.good c.mark-estimated.ensures
+    c.in-Ok.ensures.good (c.from-estimated.ensures ∙ c.is_estimated.ensures)
 
 pub overflow_add-estimated : goal.overflow_add-estimated
 overflow_add-estimated c = omega (arith, few (loop-at-preserved c))

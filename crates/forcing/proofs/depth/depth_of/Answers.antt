@@ -1,0 +1,20 @@
+-- `forcing::depth::depth_of` meets its contract: only a NaN has no bits, and any other number is what its bits stand for.
+-- Assumes nothing.
+use mathlib.Core.Path.{sym, ap, subst, ◌∙◌}
+use lib.Dec.{T}
+use lib.Ieee.{Float, binary32, fits}
+use lib.Ieee.Bits.{of_bits-to_bits}
+use Rattle.forcing.specs.Depth.{depth_call}
+use Rattle.forcing.proofs.depth.DepthLaws.{answered}
+use Rattle.forcing.proofs.depth.ValueLaws.{nan_answer}
+use Rattle.forcing.proofs.depth.depth_of.Goals as goal
+
+pub returns-then-is_nan : goal.returns-then-is_nan
+returns-then-is_nan c = answered _ _ (nan_answer c.args.x c.args.said c.if-is_nan.ensures.value)
+
+pub returns : goal.returns
+returns c =
+    let x = c.args.x in
+    -- what owning an `f32` tells: the format holds it
+    let held : T (fits binary32 x) = subst T (sym c.well_formed.0.1) tt in
+    answered _ _ (ap (λ (y : Float). depth_call y c.args.said) (sym (of_bits-to_bits binary32 x held)) ∙ sym c.judge_bits.ensures)
