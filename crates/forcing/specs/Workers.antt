@@ -1,6 +1,9 @@
 -- What the private functions require and answer: no part of document 01.
 use Rattle.std.specs.Prelude.{cond, ℕ, ◌≤◌, ◌<◌}
-use Rattle.forcing.specs.Depth.{nearest, above_limit, Depth, answer_by}
+use Rattle.forcing.specs.declared.depth.Gauge.TheVariants.{Rain}
+use Rattle.forcing.specs.declared.list.Reading.{Reading}
+use Rattle.forcing.specs.declared.list.Reading.TheVariants.{Measured, Estimated, Missing}
+use Rattle.forcing.specs.Depth.{nearest, above_limit, Depth, answer, answer_by, depth_call}
 
 -- a significand of at most 24 binary digits, over 2^14 or more
 pub record Scaled (significand places : ℕ) : Type 0 where
@@ -10,3 +13,9 @@ pub record Scaled (significand places : ℕ) : Type 0 where
 -- what judging and rounding make of the value a / b
 abbrev pub of_fraction : ℕ → ℕ → ℕ → Depth
 of_fraction limit a b = answer_by (cond (above_limit limit a b) 8 0) (nearest a b)
+
+-- the depth call on a reading, where "estimated counts as measured"; 6 of a missing one
+abbrev pub rain_call : Reading → Depth
+rain_call (Measured x) = depth_call x Rain
+rain_call (Estimated x) = depth_call x Rain
+rain_call Missing = answer 6 0

@@ -2,8 +2,9 @@
 ghost use Rattle.std.specs.Prelude.{◌≡◌, IfOk, IfErr};
 ghost use Rattle.std.specs.Int.{from_bool};
 ghost use Rattle.common.specs.Refusals.{number_of};
-ghost use Rattle.forcing.specs.Depth.{as_depth, answer_by};
-ghost use Rattle.forcing.specs.List.{weather_of, rain_number, rain_depth, line_number, estimated_of, as_forcing, reading, JudgedList};
+ghost use Rattle.forcing.specs.Depth.{as_depth};
+ghost use Rattle.forcing.specs.List.{weather_of, line_number, estimated_of, as_forcing, reading, JudgedList};
+ghost use Rattle.forcing.specs.Workers.{rain_call};
 
 use crate::depth;
 use crate::depth::Gauge;
@@ -48,10 +49,7 @@ pub fn read(lines: [Line; 32], count: u64, n: u64) -> Result<Readings, Refused>
     ensures judged { JudgedList lines count n (as_forcing result) }
 {
     if count != n {
-        return Err(Refused {
-            why: Refusal::LineCount,
-            place: 0,
-        });
+        return Err(Refusal::LineCount.into());
     }
     let mut weather = [CALM; 32];
     let mut estimated = 0;
@@ -65,12 +63,8 @@ pub fn read(lines: [Line; 32], count: u64, n: u64) -> Result<Readings, Refused>
         }
         let line = lines[at as usize];
         match judge_line(line) {
-            Ok(here) => {
-                weather[at as usize] = here;
-            }
-            Err(why) => {
-                return Err(Refused { why, place: at + 1 });
-            }
+            Ok(here) => weather[at as usize] = here,
+            Err(why) => return Err(Refused { why, place: at + 1 }),
         }
         estimated += u64::from(line.rain.is_estimated());
     }
@@ -78,6 +72,7 @@ pub fn read(lines: [Line; 32], count: u64, n: u64) -> Result<Readings, Refused>
 }
 
 // Rain before pan.
+#[tactic(auto, using(crate::proofs::list::LineLaws::first_bad_lem))]
 fn judge_line(line: Line) -> Result<Weather, Refusal>
     ensures good { IfOk result (λ w. (line_number line ≡ 0) × (w ≡ weather_of line)) }
     ensures bad { IfErr result (λ why. number_of why ≡ line_number line) }
@@ -87,9 +82,8 @@ fn judge_line(line: Line) -> Result<Weather, Refusal>
     Ok(Weather { rain, pan })
 }
 
-#[tactic(auto, unfolding(crate::specs::Depth::depth_call, crate::specs::Depth::answer_by))]
 fn judge_rain(reading: Reading) -> Result<u64, Refusal>
-    ensures { as_depth result ≡ answer_by (rain_number reading) (rain_depth reading) }
+    ensures { as_depth result ≡ rain_call reading }
 {
     match reading {
         Reading::Measured(x) | Reading::Estimated(x) => depth::depth_of(x, Gauge::Rain),

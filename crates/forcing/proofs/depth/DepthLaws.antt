@@ -52,12 +52,12 @@ depth_le limit (fin s m e) h =
 
 -- ---- the parts of an answer
 
-pub answer_number : {p : Depth} (number depth : ℕ) → p ≡ answer_by number depth → p.number ≡ number
+answer_number : {p : Depth} (number depth : ℕ) → p ≡ answer_by number depth → p.number ≡ number
 unfolding answer_by
 answer_number zero depth e = ap (λ (p : Depth). p.number) e
 answer_number (suc number) depth e = ap (λ (p : Depth). p.number) e ∙ rw (eqb-suc-zero number)
 
-pub answer_depth : {p : Depth} (number depth : ℕ) → p ≡ answer_by number depth → p.number ≡ 0 → p.depth ≡ depth
+answer_depth : {p : Depth} (number depth : ℕ) → p ≡ answer_by number depth → p.number ≡ 0 → p.depth ≡ depth
 unfolding answer_by
 answer_depth number depth e h = ap (λ (p : Depth). p.depth) e ∙ rw (sym (answer_number number depth e) ∙ h)
 
@@ -90,9 +90,13 @@ zero_call said s e = depth_call_accepted (fin s 0 e) said (zero_inside (limit_of
 
 -- what document 01 says of it, in the contract of `depth_of`
 module _ (x : Float) (said : Gauge) where
-  call_number : (depth_call x said).number ≡ number_of (limit_of said) x
+  pub call_number : (depth_call x said).number ≡ number_of (limit_of said) x
   unfolding depth_call
   call_number = answer_number (number_of (limit_of said) x) (depth_of x) refl
+
+  pub call_depth : {d : ℕ} → answer 0 d ≡ depth_call x said → d ≡ depth_of x
+  unfolding depth_call
+  call_depth e = answer_depth (number_of (limit_of said) x) (depth_of x) e refl
 
   call_zeros : ((depth_call x said).number ≡ 0 → ⊥) → depth_call x said ≡ answer (depth_call x said).number 0
   call_zeros h =

@@ -1,25 +1,23 @@
 -- From a number's 32 bits to the fraction that it stands for, and what judging and rounding make of either.
 -- Assumes nothing.
-use mathlib.Core.Path.{◌≡◌, refl, sym, ap, ◌∙◌, subst}
-use mathlib.Core.Bool.{Bool, true, false, cond, not, true≢false}
+use mathlib.Core.Path.{◌≡◌, refl, sym, ap, ◌∙◌}
+use mathlib.Core.Bool.{Bool, true, false, cond, true≢false}
 use Prim.Native.Nat.{ℕ, zero, suc, pred, ◌+◌, ◌-◌, ◌*◌, ◌/◌, ◌%◌, ◌^◌, ◌≤◌, ◌<◌, zero-le}
 use native.Mathlib.Nat.{mul-pos, mul-one, mul_assoc, not-suc-le-zero, le_of_suc-le-suc}
 use native.Mathlib.Nat.{mul-le-mul_left, mul-le-mul_right, mul-lt-mul_of_pos_right, le_of_mul-le-mul_right, lt_of_mul-lt-mul_right, lt_irrefl}
 use native.Mathlib.Omega.{arith}
 use borrow.Author.Tests.{le-leb, lt-leb, lt-ltb, le-ltb, ltb-true, ltb-false, ne_eqb}
-use lib.Dec.{T, ltb, leb, eqb}
+use lib.Dec.{ltb, leb, eqb}
 use lib.Pow.{pow_pos, pow-add, pow_mono, field}
 use lib.Bits.{bit_and, and_mask}
-use lib.Ieee.{Float, nan, inf, fin, binary32, up, down, of_fields, of_bits, is_nan, ne}
+use lib.Ieee.{Float, nan, inf, fin, binary32, up, down, of_fields, of_bits, is_nan}
 use lib.Ieee.Fits.{down_pos}
-use lib.Ieee.Compare.{differs_from_itself, nan_differs}
 use lib.Ieee.Exact.{HasValue, odd_sign}
 use lib.Ieee.Nearest.{div_same}
 use Rattle.forcing.specs.declared.depth.Gauge.{Gauge}
 use Rattle.forcing.specs.Depth.{numerator, denominator, nearest, depth_of, limit_of, unfit, above_limit, number_of, answer, answer_by, depth_call}
 use Rattle.forcing.specs.Workers.{of_fraction}
 use Rattle.forcing.proofs.depth.FractionLaws.{limit_bounds, is_above, not_above}
-use Rattle.forcing.specs.Depth.{Depth}
 
 -- ---- equal fractions
 

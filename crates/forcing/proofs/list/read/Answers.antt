@@ -67,7 +67,7 @@ module _ {lines : List Line} {count n : ℕ} {weather : List Weather} {estimated
           }
 
 pub returns-then-count-n : goal.returns-then-count-n
-returns-then-count-n c = answered _ _ _ (sym (miscounted c.args.lines _ _ c.if-count-n.true))
+returns-then-count-n c = answered _ _ _ (rw c.into.ensures (sym (miscounted c.args.lines _ _ c.if-count-n.true)))
 
 pub loop-at-init : goal.loop-at-init
 loop-at-init c = record { filling = fill_begin; seeking = seek_begin; adding = add_begin }
