@@ -39,7 +39,7 @@ pub fn depth_of(x: f32, said: Gauge) -> Result<u64, Refusal>
 
 // Sign, exponent and fraction are taken from the 32 bits. The number is significand / 2^places: the fraction over 2^149 where
 // the exponent is 0, and otherwise the fraction with a leading digit before it, over 2^(150 - exponent).
-#[tactic(auto, using(crate::proofs::depth::ValueLaws::infinite_bits, crate::proofs::depth::ValueLaws::minus_zero_bits, crate::proofs::depth::ValueLaws::negative_bits, crate::proofs::depth::ValueLaws::subnormal_bits, crate::proofs::depth::ValueLaws::large_bits, crate::proofs::depth::ValueLaws::normal_bits,))]
+#[tactic(auto, using(crate::proofs::depth::ValueLaws::bits_laws))]
 fn judge_bits(bits: u32, said: Gauge) -> Result<u64, Refusal>
     ensures { as_depth result ≡ depth_call (of_bits binary32 bits) said }
 {
@@ -66,7 +66,7 @@ fn judge_bits(bits: u32, said: Gauge) -> Result<u64, Refusal>
 }
 
 // The number significand / 2^places, by its limit.
-#[tactic(auto, using(crate::proofs::depth::FractionLaws::small_fraction, crate::proofs::depth::FractionLaws::over_limit, crate::proofs::depth::FractionLaws::within_limit, crate::proofs::depth::FractionLaws::half_le,))]
+#[tactic(auto, using(crate::proofs::depth::FractionLaws::scaled_laws))]
 fn scaled(significand: u32, places: u32, said: Gauge) -> Result<u64, Refusal>
     requires { Scaled significand places }
     ensures { as_depth result ≡ of_fraction (limit_of said) significand (2 ^ places) }

@@ -115,10 +115,6 @@ module _ (x : Float) (said : Gauge) where
         refused = call_zeros;
       }
 
-  -- an answer's equation, and with it what document 01 says of it
-  pub answered : {d : Depth} → depth_call x said ≡ d → record { answered : d ≡ depth_call x said; judged : JudgedNumber x said d }
-  answered e = record { answered = sym e; judged = rw (← e) call_judged }
-
   -- an accepted depth is at most its limit
   pub call_depth_le : (depth_call x said).number ≡ 0 → (depth_call x said).depth ≤ 1000 * limit_of said
   call_depth_le z =

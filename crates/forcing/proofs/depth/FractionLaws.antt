@@ -75,3 +75,6 @@ module _ (said : Gauge) (q p : ℕ) where
         let d : 2 ^ p ≡ 2 * half = ap (λ (k : ℕ). 2 ^ k) (sym e) ∙ pow-succ' 2 (p - 1) in
         rw (half_shift, not_above (limit_of said) q (2 ^ p) (rw limit_shift at h))
         (ap (answer 0) (ap (nearest q) d ∙ nearest_half q half (pow_pos (p - 1)) ∙ ap (λ (k : ℕ). (1000 * q + half) / k) (sym d)))
+
+-- the ways out of `scaled`
+pub ruleset scaled_laws = (small_fraction, over_limit, within_limit, half_le)

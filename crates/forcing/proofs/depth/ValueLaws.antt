@@ -180,6 +180,9 @@ module _ (b : ℕ) (said : Gauge) (fits : b < 2 ^ 32) where
           let some : 0 < exponent = omega (arith, masked_exponent) in
           rw (masked_fraction, masked_exponent) (normal number said exponent fraction some (rw masked_exponent at h) positive)
 
+-- the ways out of `judge_bits`
+pub ruleset bits_laws = (infinite_bits, minus_zero_bits, negative_bits, subnormal_bits, large_bits, normal_bits)
+
 -- ---- not a number
 
 pub nan_answer : (x : Float) (said : Gauge) → true ≡ is_nan x → depth_call x said ≡ answer 7 0

@@ -1,13 +1,19 @@
 -- `forcing::depth::depth_of` meets its contract: only a NaN has no bits, and any other number is what its bits stand for.
 -- Assumes nothing.
-use mathlib.Core.Path.{sym, ap, subst, ◌∙◌}
+use mathlib.Core.Path.{◌≡◌, sym, ap, subst, ◌∙◌}
 use lib.Dec.{T}
 use lib.Ieee.{Float, binary32, fits}
 use lib.Ieee.Bits.{of_bits-to_bits}
-use Rattle.forcing.specs.Depth.{depth_call}
-use Rattle.forcing.proofs.depth.DepthLaws.{answered}
+use Rattle.forcing.specs.declared.depth.Gauge.{Gauge}
+use Rattle.forcing.specs.Depth.{Depth, depth_call, JudgedNumber}
+use Rattle.forcing.proofs.depth.DepthLaws.{call_judged}
 use Rattle.forcing.proofs.depth.ValueLaws.{nan_answer}
 use Rattle.forcing.proofs.depth.depth_of.Goals as goal
+
+-- the answer's equation, and with it what document 01 says of it
+answered : (x : Float) (said : Gauge) {d : Depth} → depth_call x said ≡ d
+    → record { answered : d ≡ depth_call x said; judged : JudgedNumber x said d }
+answered x said e = record { answered = sym e; judged = rw (← e) (call_judged x said) }
 
 pub returns-then-is_nan : goal.returns-then-is_nan
 returns-then-is_nan c = answered _ _ (nan_answer c.args.x c.args.said c.if-is_nan.ensures.value)
