@@ -1,12 +1,13 @@
 -- A number is refused exactly where it is not from 0 to its limit, and what it comes to otherwise.
 -- Assumes nothing.
 use mathlib.Core.Path.{◌≡◌, refl, sym, ap, ◌∙◌}
-use mathlib.Core.Bool.{Bool, true, false, not, ◌&&◌, true≢false, cond}
+use mathlib.Core.Bool.{Bool, true, false, not, ◌&&◌, true≢false}
 use Prim.Native.Nat.{ℕ, zero, suc, ◌+◌, ◌*◌, ◌/◌, ◌≤◌, ◌<◌}
 use native.Mathlib.Nat.{le_of_suc-le-suc, div-lt_iff_lt-mul, div-eq_of_lt, mul-pos}
 use native.Mathlib.Omega.{arith}
-use borrow.Author.Tests.{ltb-true, ltb-false, leb-true, le-leb, lt-leb, eq-eqb}
+use borrow.Author.Tests.{leb-true, le-leb, eq-eqb}
 use lib.Dec.{ltb, leb, eqb, eqb-suc-zero}
+use Rattle.std.proofs.lemmas.Bool.Decides.{nat_tests}
 use lib.IntN.{ℤ}
 use lib.Ieee.{Float, nan, inf, fin, up, down}
 use lib.Ieee.Fits.{down_pos}
@@ -24,17 +25,7 @@ unfolding number_of unfit above_limit numerator denominator from_zero_to
 number_test limit nan = refl
 number_test limit (inf s) = refl
 number_test limit (fin s m e) =
-    both (s && ltb 0 m) (ltb (limit * down e) (m * up e))
-    ∙ ap (λ (t : Bool). not (s && ltb 0 m) && t) (flip (ltb (limit * down e) (m * up e)) refl)
-  where
-    both : (u t : Bool) → eqb (cond u 7 (cond t 8 0)) 0 ≡ not u && not t
-    both true t = refl
-    both false true = refl
-    both false false = refl
-
-    flip : (t : Bool) → ltb (limit * down e) (m * up e) ≡ t → not t ≡ leb (m * up e) (limit * down e)
-    flip true h = sym (lt-leb (m * up e) (limit * down e) (ltb-true (limit * down e) (m * up e) h))
-    flip false h = sym (le-leb (m * up e) (limit * down e) (ltb-false (limit * down e) (m * up e) h))
+    grind (arith, nat_tests)
 
 -- 1000 times a value up to the limit, to nearest, is at most 1000 times the limit
 pub depth_le : (limit : ℕ) (x : Float) → from_zero_to limit x ≡ true → depth_of x ≤ 1000 * limit

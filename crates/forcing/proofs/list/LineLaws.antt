@@ -1,6 +1,6 @@
 -- One line: it is bad exactly where it is not inside the limits, and what it comes to otherwise.
 -- Assumes nothing.
-use mathlib.Core.Bool.{Bool, true, false, ◌&&◌, cond}
+use mathlib.Core.Bool.{true, cond}
 use mathlib.Core.Path.{◌≡◌, refl, sym, ap, ◌∙◌}
 use Prim.Native.Nat.{ℕ, ◌≤◌, zero-le}
 use native.Mathlib.Omega.{arith}
@@ -13,6 +13,7 @@ use Rattle.common.proofs.Refusals.{number_some}
 use Rattle.common.specs.Weather.{most_rain, WeatherIn}
 use Rattle.common.proofs.Limits.{parts}
 use Rattle.forcing.specs.Depth.{Depth}
+use Rattle.std.proofs.lemmas.Bool.Decides.{nat_tests}
 use Rattle.forcing.specs.declared.depth.Gauge.TheVariants.{Rain, Pan}
 use Rattle.forcing.specs.declared.list.Reading.{Reading}
 use Rattle.forcing.specs.declared.list.Reading.TheVariants.{Measured, Estimated, Missing}
@@ -31,19 +32,7 @@ rain_test Missing = refl
 
 pub line_test : (l : Line) → eqb (line_number l) 0 ≡ line_inside l
 unfolding line_number line_inside
-line_test l = rw (← (rain_test l.rain), ← (number_test (limit_of Pan) l.pan)) (go (eqb rain 0) (eqb pan 0) refl refl)
-  where
-    rain : ℕ
-    rain = rain_number l.rain
-
-    pan : ℕ
-    pan = number_of (limit_of Pan) l.pan
-
-    go : (t u : Bool) → eqb rain 0 ≡ t → eqb pan 0 ≡ u → eqb (cond t pan rain) 0 ≡ t && u
-    go true true h k = cc
-    go true false h k = cc
-    go false true h k = cc
-    go false false h k = cc
+line_test l = rw (← (rain_test l.rain), ← (number_test (limit_of Pan) l.pan)) (grind (arith, nat_tests))
 
 -- "rain before pan"
 pub rain_first : (l : Line) → RainFirst l (line_number l)

@@ -1,7 +1,7 @@
 -- The lines of a step: accepted exactly where they are inside the limits, and what is then known of the weather.
 -- `reading`, `weather_of` and `line_inside` can stay shut. Assumes nothing.
 use mathlib.Core.Path.{◌≡◌, refl, sym, ap, ◌∙◌}
-use mathlib.Core.Bool.{Bool, true, false, ◌&&◌, true≢false, cond}
+use mathlib.Core.Bool.{Bool, true, false, true≢false, cond}
 use mathlib.Core.List.{List}
 use Prim.Native.Nat.{ℕ, zero, suc, ◌-◌, ◌≤◌, ◌<◌}
 use native.Mathlib.Decide.{dec_le, ℕ_discrete}
@@ -10,6 +10,7 @@ use borrow.Author.Tests.{eq-eqb, ne_eqb, eqb-true, eqb-false}
 use lib.Dec.{eqb}
 use lib.ListN.{length, get_or, replicate, get_or-eq_default}
 use Rattle.std.specs.Prelude.{Result, Ok, Err}
+use Rattle.std.proofs.lemmas.Bool.Decides.{nat_tests}
 use Rattle.common.specs.declared.refusal.Refused.{Refused}
 use Rattle.common.specs.declared.weather.Weather.{Weather}
 use Rattle.common.specs.Refusals.{number_of}
@@ -32,16 +33,7 @@ use Rattle.forcing.proofs.list.LineLaws.{estimated_one, line_test, rain_first, l
 lines_test : (lines : List Line) (n : ℕ) → eqb (first_bad_line lines n).0 0 ≡ every (λ k. line_inside (line_at lines k)) n
 unfolding first_bad every
 lines_test lines zero = refl
-lines_test lines (suc n) = rw (← (line_test (line_at lines n)), ← (lines_test lines n)) (go (eqb (first_bad_line lines n).0 0) (eqb number 0) refl refl)
-  where
-    number : ℕ
-    number = line_number (line_at lines n)
-
-    go : (t u : Bool) → eqb (first_bad_line lines n).0 0 ≡ t → eqb number 0 ≡ u
-        → eqb (cond t (cond u (0, 0) (number, suc n)) (first_bad (λ k. line_number (line_at lines k)) n)).0 0 ≡ t && u
-    go true true h k = refl
-    go true false h k = k
-    go false u h k = h
+lines_test lines (suc n) = rw (← (line_test (line_at lines n)), ← (lines_test lines n)) (grind (arith, nat_tests))
 
 module _ {lines : List Line} {count n : ℕ} where
   pub test_inside : is_inside lines count n ≡ true → Inside lines count n
