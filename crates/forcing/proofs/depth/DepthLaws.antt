@@ -1,19 +1,23 @@
 -- A number is refused exactly where it is not from 0 to its limit, and what it comes to otherwise.
 -- Assumes nothing.
 use mathlib.Core.Path.{◌≡◌, refl, sym, ap, ◌∙◌}
-use mathlib.Core.Bool.{Bool, true, false, not, ◌&&◌, true≢false, cond}
+use mathlib.Core.Bool.{Bool, true, false, not, ◌&&◌, true≢false}
 use Prim.Native.Nat.{ℕ, zero, suc, ◌+◌, ◌*◌, ◌/◌, ◌≤◌, ◌<◌}
 use native.Mathlib.Nat.{le_of_suc-le-suc, div-lt_iff_lt-mul, div-eq_of_lt, mul-pos}
 use native.Mathlib.Omega.{arith}
-use borrow.Author.Tests.{ltb-true, ltb-false, leb-true, le-leb, lt-leb, eq-eqb}
+use borrow.Author.Tests.{leb-true, le-leb, eq-eqb}
 use lib.Dec.{ltb, leb, eqb, eqb-suc-zero}
+use Rattle.std.proofs.lemmas.Bool.Decides.{nat_tests}
 use lib.IntN.{ℤ}
 use lib.Ieee.{Float, nan, inf, fin, up, down}
 use lib.Ieee.Fits.{down_pos}
+use Rattle.std.specs.Prelude.{Result, Ok, Err}
+use Rattle.common.specs.declared.refusal.Refusal.{Refusal}
+use Rattle.common.specs.Refusals.{number_of as refusal_number}
+use Rattle.common.proofs.Refusals.{number_some}
 use Rattle.common.proofs.Limits.{refuted, parts}
 use Rattle.forcing.specs.declared.depth.Gauge.{Gauge}
-use Rattle.forcing.specs.declared.depth.Depth.{Depth}
-use Rattle.forcing.specs.Depth.{numerator, denominator, nearest, depth_of, limit_of, from_zero_to}
+use Rattle.forcing.specs.Depth.{Depth, numerator, denominator, nearest, depth_of, limit_of, from_zero_to, as_depth}
 use Rattle.forcing.specs.Depth.{unfit, above_limit, number_of, answer, answer_by, depth_call, JudgedNumber}
 
 pub number_test : (limit : ℕ) (x : Float) → eqb (number_of limit x) 0 ≡ from_zero_to limit x
@@ -21,17 +25,7 @@ unfolding number_of unfit above_limit numerator denominator from_zero_to
 number_test limit nan = refl
 number_test limit (inf s) = refl
 number_test limit (fin s m e) =
-    both (s && ltb 0 m) (ltb (limit * down e) (m * up e))
-    ∙ ap (λ (t : Bool). not (s && ltb 0 m) && t) (flip (ltb (limit * down e) (m * up e)) refl)
-  where
-    both : (u t : Bool) → eqb (cond u 7 (cond t 8 0)) 0 ≡ not u && not t
-    both true t = refl
-    both false true = refl
-    both false false = refl
-
-    flip : (t : Bool) → ltb (limit * down e) (m * up e) ≡ t → not t ≡ leb (m * up e) (limit * down e)
-    flip true h = sym (lt-leb (m * up e) (limit * down e) (ltb-true (limit * down e) (m * up e) h))
-    flip false h = sym (le-leb (m * up e) (limit * down e) (ltb-false (limit * down e) (m * up e) h))
+    grind (arith, nat_tests)
 
 -- 1000 times a value up to the limit, to nearest, is at most 1000 times the limit
 pub depth_le : (limit : ℕ) (x : Float) → from_zero_to limit x ≡ true → depth_of x ≤ 1000 * limit
@@ -49,12 +43,12 @@ depth_le limit (fin s m e) h =
 
 -- ---- the parts of an answer
 
-pub answer_number : {p : Depth} (number depth : ℕ) → p ≡ answer_by number depth → p.number ≡ number
+answer_number : {p : Depth} (number depth : ℕ) → p ≡ answer_by number depth → p.number ≡ number
 unfolding answer_by
 answer_number zero depth e = ap (λ (p : Depth). p.number) e
 answer_number (suc number) depth e = ap (λ (p : Depth). p.number) e ∙ rw (eqb-suc-zero number)
 
-pub answer_depth : {p : Depth} (number depth : ℕ) → p ≡ answer_by number depth → p.number ≡ 0 → p.depth ≡ depth
+answer_depth : {p : Depth} (number depth : ℕ) → p ≡ answer_by number depth → p.number ≡ 0 → p.depth ≡ depth
 unfolding answer_by
 answer_depth number depth e h = ap (λ (p : Depth). p.depth) e ∙ rw (sym (answer_number number depth e) ∙ h)
 
@@ -87,9 +81,13 @@ zero_call said s e = depth_call_accepted (fin s 0 e) said (zero_inside (limit_of
 
 -- what document 01 says of it, in the contract of `depth_of`
 module _ (x : Float) (said : Gauge) where
-  call_number : (depth_call x said).number ≡ number_of (limit_of said) x
+  pub call_number : (depth_call x said).number ≡ number_of (limit_of said) x
   unfolding depth_call
   call_number = answer_number (number_of (limit_of said) x) (depth_of x) refl
+
+  pub call_depth : {d : ℕ} → answer 0 d ≡ depth_call x said → d ≡ depth_of x
+  unfolding depth_call
+  call_depth e = answer_depth (number_of (limit_of said) x) (depth_of x) e refl
 
   call_zeros : ((depth_call x said).number ≡ 0 → ⊥) → depth_call x said ≡ answer (depth_call x said).number 0
   call_zeros h =
@@ -113,3 +111,25 @@ module _ (x : Float) (said : Gauge) where
   call_depth_le z =
       let inside = call_judged.accepted.0 z in
       rw (depth_call_accepted x said inside) (depth_le (limit_of said) x inside)
+
+-- ---- what a call's result is, by the answer d that it stands for
+
+module _ {d : Depth} where
+  -- an accepted one is `Ok` of the depth
+  pub depth_accepted : (r : Result ℕ Refusal) → as_depth r ≡ d → d.number ≡ 0 → r ≡ Ok d.depth
+  depth_accepted (Ok v) e z = ap (λ (p : Depth). Ok p.depth) e
+  depth_accepted (Err why) e z = absurd (omega (arith, number_some why, ap (λ (p : Depth). p.number) e))
+
+  -- a refused one is `Err` of its number
+  pub depth_refused : (r : Result ℕ Refusal) → as_depth r ≡ d → (d.number ≡ 0 → ⊥) → (why : Refusal) × (r ≡ Err why) × (refusal_number why ≡ d.number)
+  depth_refused (Ok v) e b = absurd (b (sym (ap (λ (p : Depth). p.number) e)))
+  depth_refused (Err why) e b = (why, refl, ap (λ (p : Depth). p.number) e)
+
+  -- the same in a caller's arms
+  pub depth_ok : (v : ℕ) → as_depth (Ok v) ≡ d → (d.number ≡ 0) × (v ≡ d.depth)
+  depth_ok v e = (sym (ap (λ (p : Depth). p.number) e), ap (λ (p : Depth). p.depth) e)
+
+  pub depth_err : (why : Refusal) → as_depth (Err why) ≡ d → (d.number ≡ 0 → ⊥) × (refusal_number why ≡ d.number)
+  depth_err why e =
+      let n : refusal_number why ≡ d.number = ap (λ (p : Depth). p.number) e in
+      (λ z. omega (arith, number_some why), n)

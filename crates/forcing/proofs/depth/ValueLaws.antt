@@ -1,28 +1,23 @@
 -- From a number's 32 bits to the fraction that it stands for, and what judging and rounding make of either.
 -- Assumes nothing.
-use mathlib.Core.Path.{◌≡◌, refl, sym, ap, ◌∙◌, subst}
-use mathlib.Core.Bool.{Bool, true, false, cond, not, true≢false}
+use mathlib.Core.Path.{◌≡◌, refl, sym, ap, ◌∙◌}
+use mathlib.Core.Bool.{Bool, true, false, cond, true≢false}
 use Prim.Native.Nat.{ℕ, zero, suc, pred, ◌+◌, ◌-◌, ◌*◌, ◌/◌, ◌%◌, ◌^◌, ◌≤◌, ◌<◌, zero-le}
 use native.Mathlib.Nat.{mul-pos, mul-one, mul_assoc, not-suc-le-zero, le_of_suc-le-suc}
 use native.Mathlib.Nat.{mul-le-mul_left, mul-le-mul_right, mul-lt-mul_of_pos_right, le_of_mul-le-mul_right, lt_of_mul-lt-mul_right, lt_irrefl}
 use native.Mathlib.Omega.{arith}
 use borrow.Author.Tests.{le-leb, lt-leb, lt-ltb, le-ltb, ltb-true, ltb-false, ne_eqb}
-use lib.Dec.{T, ltb, leb, eqb}
+use lib.Dec.{ltb, leb, eqb}
 use lib.Pow.{pow_pos, pow-add, pow_mono, field}
 use lib.Bits.{bit_and, and_mask}
-use lib.Ieee.{Float, nan, inf, fin, binary32, up, down, of_fields, of_bits, is_nan, ne}
+use lib.Ieee.{Float, nan, inf, fin, binary32, up, down, of_fields, of_bits, is_nan}
 use lib.Ieee.Fits.{down_pos}
-use lib.Ieee.Compare.{differs_from_itself, nan_differs}
 use lib.Ieee.Exact.{HasValue, odd_sign}
 use lib.Ieee.Nearest.{div_same}
-use Rattle.forcing.specs.Depth.{numerator, denominator, nearest, depth_of, unfit, above_limit, number_of, answer, answer_by}
+use Rattle.forcing.specs.declared.depth.Gauge.{Gauge}
+use Rattle.forcing.specs.Depth.{numerator, denominator, nearest, depth_of, limit_of, unfit, above_limit, number_of, answer, answer_by, depth_call}
 use Rattle.forcing.specs.Workers.{of_fraction}
-use Rattle.forcing.proofs.depth.FractionLaws.{is_above, not_above}
-use Rattle.forcing.specs.declared.depth.Depth.{Depth}
-
--- what judging and rounding make of a number
-abbrev pub of_number : ℕ → Float → Depth
-of_number limit x = answer_by (number_of limit x) (depth_of x)
+use Rattle.forcing.proofs.depth.FractionLaws.{limit_bounds, is_above, not_above}
 
 -- ---- equal fractions
 
@@ -44,18 +39,18 @@ module _ (x d a c : ℕ) (dp : 0 < d) (cp : 0 < c) (e : x * c ≡ a * d) where
 
 -- ---- a number and its fraction
 
-pub number_fraction : (x : Float) (limit a c : ℕ) → 0 < c → HasValue x false a c → of_number limit x ≡ of_fraction limit a c
-unfolding number_of depth_of unfit numerator denominator
-number_fraction nan limit a c cp v = absurd v
-number_fraction (inf s) limit a c cp v = absurd v
-number_fraction (fin true m e) limit a c cp v = absurd (true≢false v.0)
-number_fraction (fin false m e) limit a c cp v = fraction_same (m * up e) (down e) a c (down_pos e) cp v.1 limit
+number_fraction : (x : Float) (said : Gauge) (a c : ℕ) → 0 < c → HasValue x false a c → depth_call x said ≡ of_fraction (limit_of said) a c
+unfolding depth_call number_of depth_of unfit numerator denominator
+number_fraction nan said a c cp v = absurd v
+number_fraction (inf s) said a c cp v = absurd v
+number_fraction (fin true m e) said a c cp v = absurd (true≢false v.0)
+number_fraction (fin false m e) said a c cp v = fraction_same (m * up e) (down e) a c (down_pos e) cp v.1 (limit_of said)
 
 -- ---- a number that has no value from 0 on
 
-pub unfit_answer : (x : Float) (limit : ℕ) → unfit x ≡ true → of_number limit x ≡ answer 7 0
-unfolding number_of answer_by
-unfit_answer x limit h = rw h
+unfit_answer : (x : Float) (said : Gauge) → unfit x ≡ true → depth_call x said ≡ answer 7 0
+unfolding depth_call number_of answer_by
+unfit_answer x said h = rw h
 
 below_zero : (x : Float) (a c : ℕ) → 0 < a → HasValue x true a c → unfit x ≡ true
 unfolding unfit
@@ -93,35 +88,36 @@ field_unfit s t = go (eqb t 0)
 abbrev Value : Float → ℕ → ℕ → Type 0
 Value y x t = HasValue y false (digits x t * 2 ^ pred x) (2 ^ 149)
 
-subnormal : (y : Float) (limit t : ℕ) → Value y 0 t → of_number limit y ≡ of_fraction limit t (2 ^ 149)
-subnormal y limit t v = rw mul-one at (number_fraction y limit (t * 2 ^ 0) (2 ^ 149) (pow_pos 149) v)
+subnormal : (y : Float) (said : Gauge) (t : ℕ) → Value y 0 t → depth_call y said ≡ of_fraction (limit_of said) t (2 ^ 149)
+subnormal y said t v = rw mul-one at (number_fraction y said (t * 2 ^ 0) (2 ^ 149) (pow_pos 149) v)
 
 -- q * 2^k / 2^149 is q / 2^(149 - k)
-normal : (y : Float) (limit x t : ℕ) → 0 < x → x ≤ 136 → Value y x t → of_number limit y ≡ of_fraction limit (8388608 + t) (2 ^ (150 - x))
-normal y limit zero t p h v = absurd (lt_irrefl 0 p)
-normal y limit (suc k) t p h v =
+normal : (y : Float) (said : Gauge) (x t : ℕ) → 0 < x → x ≤ 136 → Value y x t
+    → depth_call y said ≡ of_fraction (limit_of said) (8388608 + t) (2 ^ (150 - x))
+normal y said zero t p h v = absurd (lt_irrefl 0 p)
+normal y said (suc k) t p h v =
     let q = 8388608 + t in
     let places = 150 - suc k in
     let e : k + places ≡ 149 = omega arith in
-    number_fraction y limit (q * 2 ^ k) (2 ^ 149) (pow_pos 149) v
+    number_fraction y said (q * 2 ^ k) (2 ^ 149) (pow_pos 149) v
     ∙ fraction_same (q * 2 ^ k) (2 ^ 149) q (2 ^ places) (pow_pos 149) (pow_pos places)
-    (mul_assoc q (2 ^ k) (2 ^ places) ∙ ap (λ (n : ℕ). q * n) (sym (pow-add 2 k places) ∙ ap (λ (n : ℕ). 2 ^ n) e)) limit
+    (mul_assoc q (2 ^ k) (2 ^ places) ∙ ap (λ (n : ℕ). q * n) (sym (pow-add 2 k places) ∙ ap (λ (n : ℕ). 2 ^ n) e)) (limit_of said)
 
 -- from 2^10 on, which is above any limit: 2^149 is 8192 * 2^136
-large : (y : Float) (limit x t : ℕ) → limit ≤ 1000 → 136 < x → Value y x t → of_number limit y ≡ answer 8 0
+large : (y : Float) (said : Gauge) (x t : ℕ) → 136 < x → Value y x t → depth_call y said ≡ answer 8 0
 unfolding answer_by
-large y limit zero t l h v = absurd (not-suc-le-zero h)
-large y limit (suc k) t l h v =
+large y said zero t h v = absurd (not-suc-le-zero h)
+large y said (suc k) t h v =
     let q = 8388608 + t in
-    number_fraction y limit (q * 2 ^ k) (2 ^ 149) (pow_pos 149) v
-    ∙ rw (is_above limit (q * 2 ^ k) (2 ^ 149) (exceeds limit t (2 ^ 136) (2 ^ k) l (pow_pos 136) (pow_mono (le_of_suc-le-suc h))))
+    number_fraction y said (q * 2 ^ k) (2 ^ 149) (pow_pos 149) v
+    ∙ rw (is_above (limit_of said) (q * 2 ^ k) (2 ^ 149) (exceeds (limit_of said) t (2 ^ 136) (2 ^ k) (limit_bounds said).1 (pow_pos 136) (pow_mono (le_of_suc-le-suc h))))
   where
     exceeds : (limit t u w : ℕ) → limit ≤ 1000 → 0 < u → u ≤ w → limit * (8192 * u) < (8388608 + t) * w
     exceeds limit t u w l p h = omega (arith, mul-le-mul_right (8192 * u) l, mul-le-mul_left t h)
 
 -- ---- from the 32 bits
 
-module _ (b limit : ℕ) (fits : b < 2 ^ 32) where
+module _ (b : ℕ) (said : Gauge) (fits : b < 2 ^ 32) where
   abbrev exponent : ℕ
   exponent = b % 2147483648 / 8388608
 
@@ -143,26 +139,25 @@ module _ (b limit : ℕ) (fits : b < 2 ^ 32) where
   masked_fraction = and_mask b 23
 
   -- 7, not a number or infinite
-  pub infinite_bits : bit_and (b / 8388608) 255 ≡ 255 → answer 7 0 ≡ of_number limit number
+  pub infinite_bits : bit_and (b / 8388608) 255 ≡ 255 → depth_call number said ≡ answer 7 0
   unfolding of_bits
-  infinite_bits h = sym (unfit_answer number limit (rw (sym masked_exponent ∙ h) (field_unfit (leb 2147483648 b) fraction)))
+  infinite_bits h = unfit_answer number said (rw (sym masked_exponent ∙ h) (field_unfit (leb 2147483648 b) fraction))
 
-  pub minus_zero_bits : b ≡ 2147483648 → answer 0 0 ≡ of_number limit number
-  unfolding of_bits number_of depth_of unfit numerator denominator nearest answer_by
-  minus_zero_bits h = rw (h, not_above limit 0 1 zero-le)
+  pub minus_zero_bits : b ≡ 2147483648 → depth_call number said ≡ answer 0 0
+  unfolding of_bits number_of depth_of unfit numerator denominator nearest answer_by depth_call
+  minus_zero_bits h = rw (h, not_above (limit_of said) 0 1 zero-le)
 
   module _ (finite : bit_and (b / 8388608) 255 ≡ 255 → ⊥) where
     known : exponent ≡ 255 → ⊥
     known h = finite (masked_exponent ∙ h)
 
     -- 7, below zero
-    pub negative_bits : (b ≡ 2147483648 → ⊥) → b / 2147483648 ≡ 1 → answer 7 0 ≡ of_number limit number
+    pub negative_bits : (b ≡ 2147483648 → ⊥) → b / 2147483648 ≡ 1 → depth_call number said ≡ answer 7 0
     negative_bits h s =
-        sym
-        (unfit_answer number limit
+        unfit_answer number said
         (below_zero number (digits exponent fraction * 2 ^ pred exponent) (2 ^ 149)
         (mul-pos (some exponent refl) (pow_pos (pred exponent)))
-        (value true (le-leb 2147483648 b (omega arith)) known)))
+        (value true (le-leb 2147483648 b (omega arith)) known))
       where
         some : (x : ℕ) → exponent ≡ x → 0 < digits x fraction
         some zero e = omega arith
@@ -172,27 +167,26 @@ module _ (b limit : ℕ) (fits : b < 2 ^ 32) where
       positive : Value number exponent fraction
       positive = value false (lt-leb 2147483648 b (omega arith)) known
 
-      pub subnormal_bits : bit_and (b / 8388608) 255 ≡ 0 → of_fraction limit (bit_and b 8388607) (2 ^ 149) ≡ of_number limit number
-      subnormal_bits h = rw masked_fraction (sym (subnormal number limit fraction (rw (sym masked_exponent ∙ h) at positive)))
+      pub subnormal_bits : bit_and (b / 8388608) 255 ≡ 0 → depth_call number said ≡ of_fraction (limit_of said) (bit_and b 8388607) (2 ^ 149)
+      subnormal_bits h = rw masked_fraction (subnormal number said fraction (rw (sym masked_exponent ∙ h) at positive))
 
       -- 8, of an exponent that no number within any limit has
-      pub large_bits : limit ≤ 1000 → 136 < bit_and (b / 8388608) 255 → answer 8 0 ≡ of_number limit number
-      large_bits l h = sym (large number limit exponent fraction l (rw masked_exponent at h) positive)
+      pub large_bits : 136 < bit_and (b / 8388608) 255 → depth_call number said ≡ answer 8 0
+      large_bits h = large number said exponent fraction (rw masked_exponent at h) positive
 
       pub normal_bits : (bit_and (b / 8388608) 255 ≡ 0 → ⊥) → bit_and (b / 8388608) 255 ≤ 136
-          → of_fraction limit (8388608 + bit_and b 8388607) (2 ^ (150 - bit_and (b / 8388608) 255)) ≡ of_number limit number
+          → depth_call number said ≡ of_fraction (limit_of said) (8388608 + bit_and b 8388607) (2 ^ (150 - bit_and (b / 8388608) 255))
       normal_bits p h =
           let some : 0 < exponent = omega (arith, masked_exponent) in
-          rw (masked_fraction, masked_exponent) (sym (normal number limit exponent fraction some (rw masked_exponent at h) positive))
+          rw (masked_fraction, masked_exponent) (normal number said exponent fraction some (rw masked_exponent at h) positive)
+
+-- the ways out of `judge_bits`
+pub ruleset bits_laws = (infinite_bits, minus_zero_bits, negative_bits, subnormal_bits, large_bits, normal_bits)
 
 -- ---- not a number
 
-pub nan_answer : (x : Float) (limit : ℕ) → ne x x ≡ true → answer 7 0 ≡ of_number limit x
-unfolding unfit
-nan_answer x limit h = sym (unfit_answer x limit (ap unfit (differs_from_itself x (subst T (sym h) tt))))
-
-pub no_nan : (x : Float) → ne x x ≡ false → T (not (is_nan x))
-unfolding is_nan
-no_nan nan h = absurd (true≢false (sym nan_differs ∙ h))
-no_nan (inf s) h = tt
-no_nan (fin s m e) h = tt
+pub nan_answer : (x : Float) (said : Gauge) → true ≡ is_nan x → depth_call x said ≡ answer 7 0
+unfolding unfit is_nan
+nan_answer nan said h = unfit_answer nan said refl
+nan_answer (inf s) said h = cc
+nan_answer (fin s m e) said h = cc

@@ -1,23 +1,27 @@
 -- One line: it is bad exactly where it is not inside the limits, and what it comes to otherwise.
 -- Assumes nothing.
-use mathlib.Core.Bool.{Bool, true, false, ◌&&◌, cond}
-use mathlib.Core.Path.{◌≡◌, refl, sym, ◌∙◌}
-use Prim.Native.Nat.{ℕ, zero, suc, ◌≤◌, zero-le}
+use mathlib.Core.Bool.{true, cond}
+use mathlib.Core.Path.{◌≡◌, refl, sym, ap, ◌∙◌}
+use Prim.Native.Nat.{ℕ, ◌≤◌, zero-le}
 use native.Mathlib.Omega.{arith}
-use lib.Dec.{eqb, eqb-suc-zero}
+use lib.Dec.{eqb}
 use lib.Ieee.{of_bits}
-use borrow.Author.Tests.{eq-eqb, ne_eqb}
+use borrow.Author.Tests.{ne_eqb}
+use Rattle.common.specs.declared.refusal.Refusal.{Refusal}
+use Rattle.common.specs.Refusals.{number_of as refusal_number}
+use Rattle.common.proofs.Refusals.{number_some}
 use Rattle.common.specs.Weather.{most_rain, WeatherIn}
 use Rattle.common.proofs.Limits.{parts}
-use Rattle.forcing.specs.declared.depth.Depth.{Depth}
+use Rattle.forcing.specs.Depth.{Depth}
+use Rattle.std.proofs.lemmas.Bool.Decides.{nat_tests}
 use Rattle.forcing.specs.declared.depth.Gauge.TheVariants.{Rain, Pan}
 use Rattle.forcing.specs.declared.list.Reading.{Reading}
 use Rattle.forcing.specs.declared.list.Reading.TheVariants.{Measured, Estimated, Missing}
 use Rattle.forcing.specs.declared.list.Line.{Line}
-use Rattle.forcing.specs.Depth.{numerator, denominator, depth_of, limit_of, from_zero_to, unfit, above_limit, number_of, answer_by}
+use Rattle.forcing.specs.Depth.{numerator, denominator, limit_of, from_zero_to, unfit, above_limit, number_of, answer, depth_call}
 use Rattle.forcing.specs.List.{blank, rain_depth, weather_of, rain_inside, line_inside, estimated_of, rain_number, line_number, RainFirst}
-use Rattle.forcing.specs.Workers.{bad_line, good_line, judged_line}
-use Rattle.forcing.proofs.depth.DepthLaws.{number_test, depth_le, answer_number, answer_depth}
+use Rattle.forcing.specs.Workers.{rain_call}
+use Rattle.forcing.proofs.depth.DepthLaws.{number_test, depth_le, call_number, call_depth}
 
 -- ---- inside the limits
 
@@ -28,19 +32,7 @@ rain_test Missing = refl
 
 pub line_test : (l : Line) → eqb (line_number l) 0 ≡ line_inside l
 unfolding line_number line_inside
-line_test l = rw (← (rain_test l.rain), ← (number_test (limit_of Pan) l.pan)) (go (eqb rain 0) (eqb pan 0) refl refl)
-  where
-    rain : ℕ
-    rain = rain_number l.rain
-
-    pan : ℕ
-    pan = number_of (limit_of Pan) l.pan
-
-    go : (t u : Bool) → eqb rain 0 ≡ t → eqb pan 0 ≡ u → eqb (cond t pan rain) 0 ≡ t && u
-    go true true h k = cc
-    go true false h k = cc
-    go false true h k = cc
-    go false false h k = cc
+line_test l = rw (← (rain_test l.rain), ← (number_test (limit_of Pan) l.pan)) (grind (arith, nat_tests))
 
 -- "rain before pan"
 pub rain_first : (l : Line) → RainFirst l (line_number l)
@@ -70,50 +62,42 @@ estimated_one Missing = omega arith
 
 -- ---- a line judged
 
+rain_number_is : (r : Reading) → (rain_call r).number ≡ rain_number r
+rain_number_is (Measured x) = call_number x Rain
+rain_number_is (Estimated x) = call_number x Rain
+rain_number_is Missing = refl
+
+rain_depth_is : (r : Reading) {d : ℕ} → answer 0 d ≡ rain_call r → d ≡ rain_depth r
+rain_depth_is (Measured x) e = call_depth x Rain e
+rain_depth_is (Estimated x) e = call_depth x Rain e
+rain_depth_is Missing e = absurd (omega (arith, ap (λ (p : Depth). p.number) e))
+
 module _ (l : Line) where
-  pub judged_number : (judged_line l).number ≡ line_number l
-  unfolding judged_line
-  judged_number = go (line_number l)
-    where
-      go : (n : ℕ) → (cond (eqb n 0) (good_line l) (bad_line n)).number ≡ n
-      go zero = refl
-      go (suc n) = rw (eqb-suc-zero n)
+  -- the calls on rain and on pan, in the order in which they are judged
+  abbrev pub first : Depth
+  first = rain_call l.rain
 
-  pub judged_good : line_number l ≡ 0 → judged_line l ≡ good_line l
-  unfolding judged_line
-  judged_good h = rw (eq-eqb (line_number l) 0 h)
+  abbrev pub second : Depth
+  second = depth_call l.pan Pan
 
-  judged_bad : (n : ℕ) → n ≡ line_number l → (n ≡ 0 → ⊥) → bad_line n ≡ judged_line l
-  unfolding judged_line
-  judged_bad n e h = rw (← e, ne_eqb n 0 h)
+  number_is : line_number l ≡ cond (eqb first.number 0) second.number first.number
+  unfolding line_number
+  number_is = rw (rain_number_is l.rain, call_number l.pan Pan)
 
-  -- number and depth of rain and of pan, in the order in which they are judged
-  abbrev pub first : ℕ × ℕ
-  first = (rain_number l.rain, rain_depth l.rain)
+  -- the three ways out of `judge_line`, with the depths d and e
+  pub first_bad_lem : (why : Refusal) → answer (refusal_number why) 0 ≡ first → refusal_number why ≡ line_number l
+  first_bad_lem why p =
+      let n = ap (λ (p : Depth). p.number) p in
+      sym (number_is ∙ rw (← n, ne_eqb (refusal_number why) 0 (λ z. omega (arith, number_some why))))
 
-  abbrev pub second : ℕ × ℕ
-  second = (number_of (limit_of Pan) l.pan, depth_of l.pan)
+  module _ (d : ℕ) (p : answer 0 d ≡ first) where
+    second_number : second.number ≡ line_number l
+    second_number = sym (number_is ∙ rw (← (ap (λ (p : Depth). p.number) p)))
 
-  -- the three ways out of `judge_line`, with the answers p and e
-  module _ {p : Depth} (isP : p ≡ answer_by first.0 first.1) where
-    p_number : p.number ≡ first.0
-    p_number = answer_number first.0 first.1 isP
+    pub second_bad : (why : Refusal) → answer (refusal_number why) 0 ≡ second → refusal_number why ≡ line_number l
+    second_bad why q = ap (λ (p : Depth). p.number) q ∙ second_number
 
-    pub first_bad_lem : (p.number ≡ 0 → ⊥) → bad_line p.number ≡ judged_line l
-    unfolding line_number
-    first_bad_lem h = judged_bad p.number (rw (ne_eqb first.0 0 (λ e. h (p_number ∙ e))) p_number) h
-
-    module _ {e : Depth} (isE : e ≡ answer_by second.0 second.1) (fine : p.number ≡ 0) where
-      e_number : e.number ≡ line_number l
-      unfolding line_number
-      e_number = rw (eq-eqb first.0 0 (sym p_number ∙ fine)) (answer_number second.0 second.1 isE)
-
-      pub second_bad : (e.number ≡ 0 → ⊥) → bad_line e.number ≡ judged_line l
-      second_bad h = judged_bad e.number e_number h
-
-      pub line_good : e.number ≡ 0 → {m : ℕ} → m ≡ estimated_of l.rain
-          → record { number = 0; weather = record { rain = p.depth; pan = e.depth }; estimated = m } ≡ judged_line l
-      unfolding weather_of
-      line_good h isM =
-          rw (isM, answer_depth first.0 first.1 isP fine, answer_depth second.0 second.1 isE h)
-          (sym (judged_good (sym e_number ∙ h)))
+    pub line_good : (e : ℕ) → answer 0 e ≡ second → (line_number l ≡ 0) × (record { rain = d; pan = e } ≡ weather_of l)
+    unfolding weather_of
+    line_good e q =
+        (sym (ap (λ (p : Depth). p.number) q ∙ second_number), rw (← (rain_depth_is l.rain p), ← (call_depth l.pan Pan q)))

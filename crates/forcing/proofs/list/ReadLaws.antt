@@ -1,7 +1,7 @@
 -- The lines of a step: accepted exactly where they are inside the limits, and what is then known of the weather.
 -- `reading`, `weather_of` and `line_inside` can stay shut. Assumes nothing.
 use mathlib.Core.Path.{◌≡◌, refl, sym, ap, ◌∙◌}
-use mathlib.Core.Bool.{Bool, true, false, ◌&&◌, true≢false, cond}
+use mathlib.Core.Bool.{Bool, true, false, true≢false, cond}
 use mathlib.Core.List.{List}
 use Prim.Native.Nat.{ℕ, zero, suc, ◌-◌, ◌≤◌, ◌<◌}
 use native.Mathlib.Decide.{dec_le, ℕ_discrete}
@@ -9,14 +9,20 @@ use native.Mathlib.Omega.{arith}
 use borrow.Author.Tests.{eq-eqb, ne_eqb, eqb-true, eqb-false}
 use lib.Dec.{eqb}
 use lib.ListN.{length, get_or, replicate, get_or-eq_default}
+use Rattle.std.specs.Prelude.{Result, Ok, Err}
+use Rattle.std.proofs.lemmas.Bool.Decides.{nat_tests}
+use Rattle.common.specs.declared.refusal.Refused.{Refused}
 use Rattle.common.specs.declared.weather.Weather.{Weather}
+use Rattle.common.specs.Refusals.{number_of}
 use Rattle.common.specs.Weather.{calm, WeatherIn}
 use Rattle.common.specs.Loops.{table, every, first_bad}
+use Rattle.common.proofs.Refusals.{number_some}
 use Rattle.common.proofs.Limits.{by_test, both, parts}
 use Rattle.common.proofs.amounts.AmountLaws.{get_or_repeat}
 use Rattle.common.proofs.Loops.{table_length, table_in, table_past, filled_same, sum_same, sum_bound, every_in, every_at, first_bad_same, first_bad_found}
 use Rattle.forcing.specs.declared.list.Line.{Line}
-use Rattle.forcing.specs.declared.list.Forcing.{Forcing}
+use Rattle.forcing.specs.declared.list.Readings.{Readings}
+use Rattle.forcing.specs.List.{Forcing, as_forcing}
 use Rattle.forcing.specs.List.{line_at, weather_of, line_inside, Inside, is_inside, estimated_of}
 use Rattle.forcing.specs.List.{line_number, first_bad_line, accepted, refusal, judged_lines, reading, ForFirstBad, JudgedList}
 use Rattle.forcing.proofs.list.LineLaws.{estimated_one, line_test, rain_first, line_weather}
@@ -27,16 +33,7 @@ use Rattle.forcing.proofs.list.LineLaws.{estimated_one, line_test, rain_first, l
 lines_test : (lines : List Line) (n : ℕ) → eqb (first_bad_line lines n).0 0 ≡ every (λ k. line_inside (line_at lines k)) n
 unfolding first_bad every
 lines_test lines zero = refl
-lines_test lines (suc n) = rw (← (line_test (line_at lines n)), ← (lines_test lines n)) (go (eqb (first_bad_line lines n).0 0) (eqb number 0) refl refl)
-  where
-    number : ℕ
-    number = line_number (line_at lines n)
-
-    go : (t u : Bool) → eqb (first_bad_line lines n).0 0 ≡ t → eqb number 0 ≡ u
-        → eqb (cond t (cond u (0, 0) (number, suc n)) (first_bad (λ k. line_number (line_at lines k)) n)).0 0 ≡ t && u
-    go true true h k = refl
-    go true false h k = k
-    go false u h k = h
+lines_test lines (suc n) = rw (← (line_test (line_at lines n)), ← (lines_test lines n)) (grind (arith, nat_tests))
 
 module _ {lines : List Line} {count n : ℕ} where
   pub test_inside : is_inside lines count n ≡ true → Inside lines count n
@@ -188,3 +185,27 @@ module _ (lines : List Line) (count n : ℕ) where
         finds = finds;
         looks = looks;
       }
+
+-- ---- what a call's result is, by the forcing f that it stands for
+
+module _ {f : Forcing} where
+  -- an accepted one is `Ok` of the readings of f
+  pub forcing_accepted : (r : Result Readings Refused) → as_forcing r ≡ f → f.number ≡ 0
+      → r ≡ Ok (record { estimated = f.estimated; weather = f.weather })
+  forcing_accepted (Ok v) e z = ap (λ (g : Forcing). Ok (record { estimated = g.estimated; weather = g.weather })) e
+  forcing_accepted (Err e) h z = absurd (omega (arith, number_some e.why, ap (λ (g : Forcing). g.number) h))
+
+  -- a refused one is `Err` of its number and place
+  pub forcing_refused : (r : Result Readings Refused) → as_forcing r ≡ f → (f.number ≡ 0 → ⊥)
+      → (e : Refused) × (r ≡ Err e) × (number_of e.why ≡ f.number) × (e.place ≡ f.place)
+  forcing_refused (Ok v) e b = absurd (b (sym (ap (λ (g : Forcing). g.number) e)))
+  forcing_refused (Err e) h b = (e, refl, ap (λ (g : Forcing). g.number) h, ap (λ (g : Forcing). g.place) h)
+
+  -- the same in a caller's arms
+  pub forcing_ok : (v : Readings) → as_forcing (Ok v) ≡ f → (f.number ≡ 0) × (v.estimated ≡ f.estimated) × (v.weather ≡ f.weather)
+  forcing_ok v e = (sym (ap (λ (g : Forcing). g.number) e), ap (λ (g : Forcing). g.estimated) e, ap (λ (g : Forcing). g.weather) e)
+
+  pub forcing_err : (e : Refused) → as_forcing (Err e) ≡ f → (f.number ≡ 0 → ⊥) × (number_of e.why ≡ f.number) × (e.place ≡ f.place)
+  forcing_err e h =
+      let n : number_of e.why ≡ f.number = ap (λ (g : Forcing). g.number) h in
+      (λ z. omega (arith, number_some e.why), n, ap (λ (g : Forcing). g.place) h)

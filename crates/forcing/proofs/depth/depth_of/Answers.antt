@@ -1,25 +1,26 @@
--- `forcing::depth::depth_of` meets its contract: each arm is given what the number is said to be.
+-- `forcing::depth::depth_of` meets its contract: only a NaN has no bits, and any other number is what its bits stand for.
 -- Assumes nothing.
-use mathlib.Core.Path.{◌≡◌}
-use lib.Ieee.{Float}
+use mathlib.Core.Path.{◌≡◌, sym, ap, subst, ◌∙◌}
+use lib.Dec.{T}
+use lib.Ieee.{Float, binary32, fits}
+use lib.Ieee.Bits.{of_bits-to_bits}
 use Rattle.forcing.specs.declared.depth.Gauge.{Gauge}
-use Rattle.forcing.specs.declared.depth.Depth.{Depth}
-use Rattle.forcing.specs.Depth.{depth_call, JudgedNumber}
+use Rattle.forcing.specs.Depth.{Depth, depth_call, JudgedNumber}
 use Rattle.forcing.proofs.depth.DepthLaws.{call_judged}
+use Rattle.forcing.proofs.depth.ValueLaws.{nan_answer}
 use Rattle.forcing.proofs.depth.depth_of.Goals as goal
 
--- what document 01 says of an answer
-judged : (x : Float) (said : Gauge) {r : Depth} → r ≡ depth_call x said → JudgedNumber x said r
-judged x said e = rw e (call_judged x said)
+-- the answer's equation, and with it what document 01 says of it
+answered : (x : Float) (said : Gauge) {d : Depth} → depth_call x said ≡ d
+    → record { answered : d ≡ depth_call x said; judged : JudgedNumber x said d }
+answered x said e = record { answered = sym e; judged = rw (← e) (call_judged x said) }
 
-pub returns-in-Rain : goal.returns-in-Rain
-unfolding depth_call
-returns-in-Rain c =
-    let e : c.judge.result ≡ depth_call c.args.x c.args.said = rw c.in-Rain.is c.judge.ensures in
-    record { answered = e; judged = judged _ _ e }
+pub returns-then-is_nan : goal.returns-then-is_nan
+returns-then-is_nan c = answered _ _ (nan_answer c.args.x c.args.said c.if-is_nan.ensures.value)
 
-pub returns-in-Pan : goal.returns-in-Pan
-unfolding depth_call
-returns-in-Pan c =
-    let e : c.judge-in-Pan.result ≡ depth_call c.args.x c.args.said = rw c.in-Pan.is c.judge-in-Pan.ensures in
-    record { answered = e; judged = judged _ _ e }
+pub returns : goal.returns
+returns c =
+    let x = c.args.x in
+    -- what owning an `f32` tells: the format holds it
+    let held : T (fits binary32 x) = subst T (sym c.well_formed.0.1) tt in
+    answered _ _ (ap (λ (y : Float). depth_call y c.args.said) (sym (of_bits-to_bits binary32 x held)) ∙ sym c.judge_bits.ensures)

@@ -1,13 +1,9 @@
--- `forcing::file::lines_of` meets its contract. The invariant of its loop: k lines are filled in, the others are lines of zeros. The
--- measure is the count of lines that are left. Assumes nothing.
-use Prim.Native.Nat.{◌-◌}
+-- `forcing::file::lines_of` meets its contract. The invariant of its loop: k lines are filled in, the others are lines of zeros.
+-- Assumes nothing.
 use lib.ListN.{replicate}
 use Rattle.common.proofs.Loops.{Filling}
 use Rattle.forcing.specs.File.{line_of, file_line}
 use Rattle.forcing.proofs.file.lines_of.Given as goal
 
 abbrev pub invariant-loop-k : goal.invariant-loop-k
-invariant-loop-k l = Filling (file_line l.bytes) (replicate 32 (line_of 0 0 0)) l.last l.k l.lines
-
-abbrev pub decreases-loop-k : goal.decreases-loop-k
-decreases-loop-k l = l.last - l.k
+invariant-loop-k l = Filling (file_line l.bytes) (replicate 32 (line_of 0 0 0)) l.k-end l.k l.lines
