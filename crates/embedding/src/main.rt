@@ -1,9 +1,10 @@
 // A host of the library, as README.md has it: it loads a basin file of two sub-basins and takes a step a day.
 #![tactic(auto)]
 
+use basin::file;
 use basin::state::Basin;
-use basin::step::{Outcome, Report};
-use basin::{file, step};
+use basin::step::Report;
+use common::refusal::Refused;
 use forcing::list::{Line, Reading};
 use std::io::Read;
 use std::{fs, io};
@@ -12,29 +13,27 @@ fn main(rt: HostRuntime) -> io::Result<()> {
     let mut bytes = [0u8; 4096]; // more than any legal file has
     let size = fs::metadata(&rt, "basin.bin")?.len().min(4096) as usize;
     fs::open(&rt, "basin.bin")?.read_exact(&mut bytes[..size])?;
-    let loaded = file::load(&bytes[..size]);
-    if loaded.number != 0 {
-        return Ok(()); // refused: loaded.place says where, and loaded.basin is empty
-    }
+    let Ok(mut basin) = file::load(&bytes[..size]) else {
+        return Ok(()); // refused: the error says why, and where
+    };
     let monday = day(
-        loaded.basin,
+        &mut basin,
         Reading::Measured(42.5),
         Reading::Measured(120.5),
     );
-    print(&rt, monday.report)?;
+    print(&rt, monday)?;
     let tuesday = day(
-        monday.basin,
+        &mut basin,
         Reading::Estimated(140.0),
         Reading::Measured(1.5),
     );
-    print(&rt, tuesday.report)?;
-    let wednesday = day(tuesday.basin, Reading::Missing, Reading::Measured(0.0));
-    print(&rt, wednesday.report)
+    print(&rt, tuesday)?;
+    let wednesday = day(&mut basin, Reading::Missing, Reading::Measured(0.0));
+    print(&rt, wednesday)
 }
 
-// One step: it takes 32 lines and looks at the first two. Its answer has the basin for the next; where its number isn't 0 the step is
-// refused, and that is the basin that it got.
-fn day(basin: Basin, first: Reading, second: Reading) -> Outcome {
+// One step: it takes 32 lines and looks at the first two. One that is refused leaves the basin as it was; its error says why, and where.
+fn day(basin: &mut Basin, first: Reading, second: Reading) -> Result<Report, Refused> {
     let blank = Line {
         rain: Reading::Missing,
         pan: 0.0,
@@ -48,10 +47,13 @@ fn day(basin: Basin, first: Reading, second: Reading) -> Outcome {
         rain: second,
         pan: 3.5,
     };
-    step::step(basin, lines, 2)
+    basin.step(lines, 2)
 }
 
 // Outlet volume and content, both 0 of a refused step.
-fn print(rt: &impl Print, report: Report) -> io::Result<()> {
-    println!(rt; "{} {}", report.outlet, report.content)
+fn print(rt: &impl Print, day: Result<Report, Refused>) -> io::Result<()> {
+    match day {
+        Ok(report) => println!(rt; "{} {}", report.outlet, report.content),
+        Err(_) => println!(rt; "0 0"),
+    }
 }

@@ -9,12 +9,10 @@ use lib.ListN.{get_or}
 use Rattle.common.specs.Limits.{within}
 use Rattle.common.proofs.Limits.{by_test, within_in, within_limits, within_not}
 use Rattle.forcing.specs.declared.depth.Gauge.TheVariants.{Pan}
-use Rattle.forcing.specs.declared.depth.Depth.{Depth}
-use Rattle.forcing.specs.Depth.{answer, depth_call}
+use Rattle.forcing.specs.Depth.{Depth, answer, depth_call}
 use Rattle.forcing.proofs.depth.DepthLaws.{call_depth_le}
 use Rattle.subbasin.specs.declared.record.SubBasin.{SubBasin}
-use Rattle.subbasin.specs.declared.yields.Answer.{Answer}
-use Rattle.subbasin.specs.Yields.{yield, Answers, refused, own_refusal}
+use Rattle.subbasin.specs.Yields.{Answer, yield, Answers, refused, own_refusal}
 use Rattle.subbasin.proofs.record.RecordLaws.{record_in_lem, record_other}
 use Rattle.subbasin.proofs.yields.YieldsLaws.{refuses, own_none}
 use Rattle.basin.specs.declared.state.Basin.{Basin}

@@ -2,10 +2,8 @@
 use Rattle.std.specs.Prelude.{◌≡◌, true, false, cond, ℕ, ◌-◌, ◌≤◌, Float}
 use Rattle.common.specs.Limits.{within}
 use Rattle.forcing.specs.declared.depth.Gauge.TheVariants.{Pan}
-use Rattle.forcing.specs.declared.depth.Depth.{Depth}
-use Rattle.forcing.specs.Depth.{answer, depth_call}
-use Rattle.subbasin.specs.declared.yields.Answer.{Answer}
-use Rattle.subbasin.specs.Yields.{yield, Answers}
+use Rattle.forcing.specs.Depth.{Depth, answer, depth_call}
+use Rattle.subbasin.specs.Yields.{Answer, yield, Answers}
 use Rattle.basin.specs.declared.state.Basin.{Basin}
 use Rattle.basin.specs.State.{sub_at}
 use Rattle.basin.specs.Limits.{basin_in}
