@@ -1,5 +1,5 @@
 -- What the private functions require and answer: no part of document 01.
-use Rattle.std.specs.Prelude.{◌≡◌, true, cond, List, [], ℕ, ◌+◌, ◌*◌, ◌^◌, ◌≤◌, ◌<◌, length, get_or}
+use Rattle.std.specs.Prelude.{◌≡◌, Bool, true, cond, ◌&&◌, List, [], ℕ, ◌+◌, ◌*◌, ◌^◌, ◌≤◌, ◌<◌, length, get_or}
 use Rattle.common.specs.declared.weather.Weather.{Weather}
 use Rattle.common.specs.Shares.{one}
 use Rattle.common.specs.Weather.{calm, WeatherIn}
@@ -15,7 +15,7 @@ use Rattle.basin.specs.declared.step.Subs.{Subs}
 use Rattle.basin.specs.declared.step.Turn.{Turn}
 use Rattle.basin.specs.Reach.{blank_reach, reach_in}
 use Rattle.basin.specs.State.{sub_at}
-use Rattle.basin.specs.Limits.{subs_used}
+use Rattle.basin.specs.Limits.{subs_used, subs_blank, reaches_used, reaches_blank}
 use Rattle.basin.specs.Network.{g_of, flows, reaches_after}
 use Rattle.basin.specs.Step.{step_of, sent_by, rain_volume, loss_volume}
 
@@ -90,6 +90,10 @@ pub record Flowed (m : ℕ) (rs : List Reach) (sent : List ℕ) (after : List Re
   pub held_most : held ≤ 2 ^ 62
 
 -- ---- the basin
+
+-- 9 but for the counts and the sub-basins in use
+unfoldable pub records_in : Basin → Bool
+records_in b = subs_blank b.n b.subs && reaches_used b.m b.reaches && reaches_blank b.m b.reaches
 
 -- the lengths that a basin's type gives
 pub record Shaped (b : Basin) : Type 0 where

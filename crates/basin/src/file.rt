@@ -133,8 +133,7 @@ fn first_out_reach(bytes: &[u8], n: u64, m: u64) -> u64
     let mut j: u64 = 0;
     while j < m {
         let r = reach_at(bytes, n, j);
-        let k = reach::first_outside(r, j + 1, m);
-        if k != REACH_WORDS {
+        if let Some(k) = r.first_outside(j + 1, m) {
             return REACH_WORDS * j + k;
         }
         j += 1;

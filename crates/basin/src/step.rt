@@ -58,7 +58,7 @@ pub fn step_with(roots: &Roots, b: Basin, lines: [Line; 32], count: u64) -> Outc
     ensures judges { Judged b lines count result }
 {
     let f = list::read(lines, count, b.n);
-    if limits::others_allowed(b) {
+    if limits::others_allowed(&b) {
         if f.number == 0 {
             return take(roots, b, f);
         }
@@ -72,8 +72,7 @@ fn refuse_forcing(b: Basin, number: u64, place: u64) -> Outcome
     requires { others_in b ≡ true }
     ensures { result ≡ cond (basin_in b) (refused_step b number place) (refused_step b 9 0) }
 {
-    let subs = b.subs;
-    if limits::subs_used(subs, b.n, b.m) {
+    if limits::subs_used(&b.subs, b.n, b.m) {
         return refuse(b, number, place);
     }
     refuse(b, 9, 0)
