@@ -14,11 +14,10 @@ use Rattle.subbasin.proofs.record.RecordLaws.{blank_blank}
 use Rattle.subbasin.proofs.step.StepLaws.{Sound, sound_file}
 use Rattle.basin.specs.declared.reach.Reach.{Reach}
 use Rattle.basin.specs.declared.state.Basin.{Basin}
-use Rattle.basin.specs.declared.file.Loaded.{Loaded}
 use Rattle.basin.specs.declared.step.Outcome.{Outcome}
 use Rattle.basin.specs.declared.week.Ran.{Ran}
 use Rattle.basin.specs.State.{sub_at, reach_at, content_of}
-use Rattle.basin.specs.File.{file_n, file_m, file_sub, file_reach, file_basin, load_call, FileIn}
+use Rattle.basin.specs.File.{Loaded, file_n, file_m, file_sub, file_reach, file_basin, load_call, FileIn}
 use Rattle.basin.specs.Step.{step_call, Judged}
 use Rattle.basin.specs.Calls.{Call, results, last_basin}
 use Rattle.basin.specs.Week.{fits, week_calls, after, together, untaken, week_taken, week_call}

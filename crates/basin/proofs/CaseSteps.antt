@@ -18,8 +18,7 @@ use Rattle.basin.specs.declared.step.Report.{Report}
 use Rattle.basin.specs.declared.step.Outcome.{Outcome}
 use Rattle.basin.specs.declared.week.Ran.{Ran}
 use Rattle.basin.specs.State.{sub_at, content_of}
-use Rattle.basin.specs.declared.file.Loaded.{Loaded}
-use Rattle.basin.specs.File.{file_n, file_sub, file_basin, load_call}
+use Rattle.basin.specs.File.{Loaded, file_n, file_sub, file_basin, load_call}
 use Rattle.basin.specs.Step.{taken, refused_step, step_call}
 use Rattle.basin.specs.Calls.{Call, results}
 use Rattle.basin.specs.Week.{fits, together, untaken, week_call}

@@ -9,9 +9,8 @@ use Rattle.basin.specs.declared.state.Basin.{Basin}
 use Rattle.basin.specs.declared.step.Report.{Report}
 use Rattle.basin.specs.declared.step.Outcome.{Outcome}
 use Rattle.basin.specs.declared.week.Ran.{Ran}
-use Rattle.basin.specs.declared.file.Loaded.{Loaded}
 use Rattle.basin.specs.State.{sub_at, content_of, Unchanged}
-use Rattle.basin.specs.File.{file_n, file_sub, file_basin}
+use Rattle.basin.specs.File.{Loaded, file_n, file_sub, file_basin}
 use Rattle.basin.specs.Step.{taken, refused_step, step_call, Refused}
 use Rattle.basin.specs.Calls.{Call, results, last_basin}
 use Rattle.basin.specs.Week.{fits, week_calls, together, untaken, week_call}
