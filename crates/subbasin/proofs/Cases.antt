@@ -4,11 +4,10 @@ use Prim.Native.Nat.{ℕ, ◌+◌}
 use lib.ListN.{replicate}
 use Rattle.common.specs.Cases.{Agree}
 use Rattle.curve.specs.Store.{outflow, content}
-use Rattle.subbasin.specs.declared.step.Stepped.{Stepped}
 use Rattle.subbasin.specs.Soil.{ep, evaporated}
 use Rattle.subbasin.specs.FreeWater.{drained}
 use Rattle.subbasin.specs.Lag.{leaving, waiting_after, entered}
-use Rattle.subbasin.specs.Step.{stepped, stepped_whole}
+use Rattle.subbasin.specs.Step.{Stepped, stepped, stepped_whole}
 use Rattle.subbasin.specs.Yields.{yield}
 use Rattle.subbasin.specs.Cases.{case_a, weather_a, whole_rain, sliced_rain, dipping, step_cases}
 use Rattle.subbasin.proofs.slices.FastLaws.{fast_sliced, sliced_fast, fast_after_slice, unsliced_fast}

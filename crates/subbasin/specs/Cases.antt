@@ -6,10 +6,9 @@ use Rattle.common.specs.Cases.{Row, row}
 use Rattle.subbasin.specs.declared.record.SubBasin.{SubBasin}
 use Rattle.subbasin.specs.Record.{of_words}
 use Rattle.subbasin.specs.declared.slices.Sliced.{Sliced}
-use Rattle.subbasin.specs.declared.step.Stepped.{Stepped}
 use Rattle.subbasin.specs.Soil.{tension}
 use Rattle.subbasin.specs.Slices.{sliced, unsliced}
-use Rattle.subbasin.specs.Step.{layers_of, let_go, stepped, stepped_whole}
+use Rattle.subbasin.specs.Step.{Stepped, layers_of, let_go, stepped, stepped_whole}
 use Rattle.subbasin.specs.Yields.{yield}
 
 -- area, K, UM, LM, DM, C, BN, IM, SM, XN, KI, KG, CI, CG, then CS, L, REACH and all starts 0

@@ -1,15 +1,17 @@
 -- Document 01, "One sub-basin, one step" and "The store law", with net rain as document 02, No. 3, has it: one step of a sub-basin, and
 -- the sub-basin call.
-use Rattle.std.specs.Prelude.{◌≡◌, ℕ, ◌+◌, ◌-◌, ◌*◌, ◌≤◌, Bool, cond, ◌&&◌, leb}
+use Rattle.std.specs.Prelude.{◌≡◌, ℕ, ◌+◌, ◌-◌, ◌*◌, ◌≤◌, Bool, cond, ◌&&◌, leb, Result, Ok, Err}
 use Rattle.common.specs.Shares.{one}
 use Rattle.common.specs.declared.weather.Weather.{Weather}
+use Rattle.common.specs.declared.refusal.Refusal.{Refusal}
+use Rattle.common.specs.Refusals.{number_of}
 use Rattle.common.specs.Weather.{most_rain, most_pan}
 use Rattle.curve.specs.declared.store.Store.{Store}
 use Rattle.curve.specs.Store.{outflow, content}
 use Rattle.subbasin.specs.declared.record.Contents.{Contents}
 use Rattle.subbasin.specs.declared.record.LagLine.{LagLine}
 use Rattle.subbasin.specs.declared.record.SubBasin.{SubBasin}
-use Rattle.subbasin.specs.declared.step.Stepped.{Stepped}
+use Rattle.subbasin.specs.declared.step.Flows.{Flows}
 use Rattle.subbasin.specs.Record.{record_in}
 use Rattle.subbasin.specs.declared.soil.Layers.{Layers}
 use Rattle.subbasin.specs.declared.soil.Evaporated.{Evaporated}
@@ -19,6 +21,21 @@ use Rattle.subbasin.specs.Soil.{ep, evaporated}
 use Rattle.subbasin.specs.FreeWater.{drained}
 use Rattle.subbasin.specs.Slices.{sliced, unsliced}
 use Rattle.subbasin.specs.Lag.{leaving, entered}
+
+-- What a step of a sub-basin gives: number and place are 0 where it is accepted. Depths in µm, q in m³.
+pub record Stepped : Type 0 where
+  pub number : ℕ
+  pub place : ℕ
+  pub after : SubBasin
+  pub eu : ℕ
+  pub el : ℕ
+  pub ed : ℕ
+  pub rb : ℕ
+  pub r : ℕ
+  pub rs : ℕ
+  pub ri : ℕ
+  pub rg : ℕ
+  pub q : ℕ
 
 abbrev pub layers_of : Contents → Layers
 layers_of w = record { wu = w.wu; wl = w.wl; wd = w.wd }
@@ -106,6 +123,27 @@ abbrev pub returned : SubBasin → Stepped
 returned s =
     record
     { number = 10; place = 0; after = s; eu = 0; el = 0; ed = 0; rb = 0; r = 0; rs = 0; ri = 0; rg = 0; q = 0 }
+
+-- what a call's answer stands for, with the record as it then is
+abbrev pub as_stepped : SubBasin → Result Flows Refusal → Stepped
+as_stepped s (Ok f) =
+    record {
+      number = 0;
+      place = 0;
+      after = s;
+      eu = f.eu;
+      el = f.el;
+      ed = f.ed;
+      rb = f.rb;
+      r = f.r;
+      rs = f.rs;
+      ri = f.ri;
+      rg = f.rg;
+      q = f.q;
+    }
+as_stepped s (Err why) =
+    record
+    { number = number_of why; place = 0; after = s; eu = 0; el = 0; ed = 0; rb = 0; r = 0; rs = 0; ri = 0; rg = 0; q = 0 }
 
 -- "for a record that 9 would refuse (REACH isn't judged), rain above 1,000,000 or pan above 100,000"
 unfoldable pub call_in : SubBasin → Weather → Bool

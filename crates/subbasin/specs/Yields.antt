@@ -1,8 +1,9 @@
 -- Document 02, No. 5: which rain would do it?
-use Rattle.std.specs.Prelude.{◌≡◌, true, false, cond, ◌↔◌, ℕ, ◌+◌, ◌*◌, ◌≤◌, ◌<◌}
+use Rattle.std.specs.Prelude.{◌≡◌, Bool, true, false, cond, ◌↔◌, ℕ, ◌+◌, ◌*◌, ◌≤◌, ◌<◌, Option, Some, None, Result, Ok, Err}
 use Rattle.common.specs.declared.weather.Weather.{Weather}
+use Rattle.common.specs.declared.refusal.Refusal.{Refusal}
+use Rattle.common.specs.Refusals.{number_of}
 use Rattle.subbasin.specs.declared.record.SubBasin.{SubBasin}
-use Rattle.subbasin.specs.declared.yields.Answer.{Answer}
 use Rattle.subbasin.specs.Step.{stepped, call_in}
 
 -- "a whole number of millimetres, 0..1,000"
@@ -16,6 +17,13 @@ raining k pan = record { rain = 1000 * k; pan = pan }
 -- "RB + R of that sub-basin's next step"
 unfoldable pub yield : SubBasin → ℕ → ℕ → ℕ
 yield s pan k = (stepped s (raining k pan)).rb + (stepped s (raining k pan)).r
+
+-- A rain that does, or none. Number and place are 0 where the question is accepted; rain is 0 where there is none, or it is refused.
+pub record Answer : Type 0 where
+  pub number : ℕ
+  pub place : ℕ
+  pub none : Bool
+  pub rain : ℕ
 
 -- What is right of an answer, where the refusal whose turn it is has this number, 0 for none, and a rain of k millimetres yields f k. Which
 -- rain is named is the program's choice: all that may be named have `rain_does` in common, and the rest is settled.
@@ -33,6 +41,12 @@ pub record Answers (refusal : ℕ) (f : ℕ → ℕ) (wanted : ℕ) (a : Answer)
 -- an answer that is a refusal
 abbrev pub refused : ℕ → Answer
 refused number = record { number = number; place = 0; none = false; rain = 0 }
+
+-- what a call's answer stands for
+abbrev pub as_answer : Result (Option ℕ) Refusal → Answer
+as_answer (Ok (Some k)) = record { number = 0; place = 0; none = false; rain = k }
+as_answer (Ok None) = record { number = 0; place = 0; none = true; rain = 0 }
+as_answer (Err why) = refused (number_of why)
 
 -- the sub-basin's own: 10 where its call has it, whatever the rain
 unfoldable pub own_refusal : SubBasin → ℕ → ℕ

@@ -6,15 +6,17 @@ ghost use Rattle.subbasin.specs.Content.{water_depth, water};
 use crate::record::{Contents, SubBasin};
 use common::amounts;
 
-// Its water in m³, as far as 64 bits hold it.
-pub fn water_of(s: SubBasin) -> u64
-    ensures { result ≡ capped (water s) }
-{
-    let p = s.fixed;
-    let line = s.line;
-    let waiting = line.waiting;
-    let soil = amounts::times(p.area, water_depth(s.contents));
-    amounts::add(amounts::add(soil, amounts::total(&waiting)), s.channel)
+impl SubBasin {
+    // Its water in m³, as far as 64 bits hold it.
+    pub fn water(&self) -> u64
+        ensures { result ≡ capped (water self.now) }
+    {
+        let soil = amounts::times(self.fixed.area, water_depth(self.contents));
+        amounts::add(
+            amounts::add(soil, amounts::total(&self.line.waiting)),
+            self.channel,
+        )
+    }
 }
 
 // The depth of all that waits over the sub-basin, in µm.

@@ -8,14 +8,12 @@ use common::amounts;
 const MOST_WAITING: u64 = 1125899906842624; // 2^50
 
 // Whether no amount is above 2^50 and every unused place is zero.
-pub fn allowed(line: LagLine) -> bool
-    ensures { result ≡ line_in line }
+#[tactic(auto, unfolding(crate::specs::Lag::line_in))]
+pub fn allowed(line: &LagLine) -> bool
+    ensures { result ≡ line_in line.now }
 {
-    let waiting = line.waiting;
-    if amounts::up_to(MOST_WAITING, &waiting, 0) {
-        return amounts::up_to(0, &waiting, line.lag as usize);
-    }
-    false
+    amounts::up_to(MOST_WAITING, &line.waiting, 0)
+        && amounts::up_to(0, &line.waiting, line.lag as usize)
 }
 
 // What leaves when the amount t enters: what entered as many steps ago as the lag says.

@@ -1,8 +1,8 @@
 // A sub-basin's record: the words of the basin file, the lag line and the channel store; and its limits.
-ghost use Rattle.std.specs.Prelude.{◌≡◌, ◌-◌, ◌≤◌};
+ghost use Rattle.std.specs.Prelude.{◌≡◌, ◌-◌, ◌≤◌, ◌<◌, IfSome};
 ghost use Rattle.common.specs.Shares.{one};
 ghost use Rattle.subbasin.specs.Workers.{further};
-ghost use Rattle.subbasin.specs.Record.{words_of, of_words, first_outside, record_in, is_blank};
+ghost use Rattle.subbasin.specs.Record.{word_count, words_of, of_words, first_outside, number_of, record_in, is_blank};
 
 use crate::lag;
 use common::amounts;
@@ -71,96 +71,138 @@ pub const MOST_START: u64 = 1000000;
 pub const MOST_SLOW: u64 = 8589934592; // 2^33
 
 // The record of a file's words. Lag line and CS store start empty.
-pub fn of_words(v: [u64; WORDS]) -> SubBasin
-    ensures { result ≡ of_words v }
-{
-    let fixed = Parameters {
-        area: v[0],
-        k: v[1],
-        um: v[2],
-        lm: v[3],
-        dm: v[4],
-        c: v[5],
-        bn: v[6],
-        im: v[7],
-        sm: v[8],
-        xn: v[9],
-        ki: v[10],
-        kg: v[11],
-        ci: v[12],
-        cg: v[13],
-        cs: v[14],
-        reach: v[16],
-    };
-    let contents = Contents {
-        wu: v[17],
-        wl: v[18],
-        wd: v[19],
-        g: v[20],
-        vi: v[21],
-        vg: v[22],
-    };
-    let line = LagLine {
-        lag: v[15],
-        waiting: [0u64; 15],
-    };
-    SubBasin {
-        fixed,
-        contents,
-        line,
-        channel: 0,
+impl From<[u64; WORDS]> for SubBasin {
+    ghost from_gives = { λ v s. s ≡ of_words v };
+
+    fn from(v: [u64; WORDS]) -> SubBasin {
+        SubBasin {
+            fixed: Parameters {
+                area: v[0],
+                k: v[1],
+                um: v[2],
+                lm: v[3],
+                dm: v[4],
+                c: v[5],
+                bn: v[6],
+                im: v[7],
+                sm: v[8],
+                xn: v[9],
+                ki: v[10],
+                kg: v[11],
+                ci: v[12],
+                cg: v[13],
+                cs: v[14],
+                reach: v[16],
+            },
+            contents: Contents {
+                wu: v[17],
+                wl: v[18],
+                wd: v[19],
+                g: v[20],
+                vi: v[21],
+                vg: v[22],
+            },
+            line: LagLine {
+                lag: v[15],
+                waiting: [0; 15],
+            },
+            channel: 0,
+        }
     }
 }
 
-// A record's words, in the file's order.
-pub fn words_of(s: SubBasin) -> [u64; WORDS]
-    ensures { result ≡ words_of s }
-{
-    let p = s.fixed;
-    let w = s.contents;
-    let line = s.line;
-    [
-        p.area, p.k, p.um, p.lm, p.dm, p.c, p.bn, p.im, p.sm, p.xn, p.ki, p.kg, p.ci, p.cg, p.cs,
-        line.lag, p.reach, w.wu, w.wl, w.wd, w.g, w.vi, w.vg,
-    ]
-}
+impl SubBasin {
+    // Its words, in the file's order.
+    pub fn words(&self) -> [u64; WORDS]
+        ensures { result ≡ words_of self.now }
+    {
+        let p = &self.fixed;
+        let w = &self.contents;
+        [
+            p.area,
+            p.k,
+            p.um,
+            p.lm,
+            p.dm,
+            p.c,
+            p.bn,
+            p.im,
+            p.sm,
+            p.xn,
+            p.ki,
+            p.kg,
+            p.ci,
+            p.cg,
+            p.cs,
+            self.line.lag,
+            p.reach,
+            w.wu,
+            w.wl,
+            w.wd,
+            w.g,
+            w.vi,
+            w.vg,
+        ]
+    }
 
-// The number of the first word outside its range, counted from 0, and WORDS where none is. REACH is up to m, VI and VG up to v.
-pub fn first_outside(s: SubBasin, m: u64, v: u64) -> u64
-    ensures { result ≡ first_outside m v s }
-{
-    let p = s.fixed;
-    let w = s.contents;
-    let line = s.line;
-    let mut n = 0;
-    n = next(n, 0, 1, p.area, 5000);
-    n = next(n, 1, 0, p.k, 131072);
-    n = next(n, 2, 0, p.um, 100000);
-    n = next(n, 3, 1, p.lm, 200000);
-    n = next(n, 4, 0, p.dm, 200000);
-    n = next(n, 5, 0, p.c, 65535);
-    n = next(n, 6, 16, p.bn, 32);
-    n = next(n, 7, 0, p.im, 32768);
-    n = next(n, 8, 1, p.sm, 100000);
-    n = next(n, 9, 16, p.xn, 48);
-    n = next(n, 10, 0, p.ki, ONE);
-    n = next(n, 11, 0, p.kg, rest(p.ki));
-    n = next(n, 12, 0, p.ci, 65535);
-    n = next(n, 13, 0, p.cg, 65535);
-    n = next(n, 14, 0, p.cs, 65535);
-    n = next(n, 15, 0, line.lag, 15);
-    n = next(n, 16, 0, p.reach, m);
-    n = next(n, 17, 0, w.wu, p.um);
-    n = next(n, 18, 0, w.wl, p.lm);
-    n = next(n, 19, 0, w.wd, p.dm);
-    n = next(n, 20, 0, w.g, p.sm);
-    n = next(n, 21, 0, w.vi, v);
-    n = next(n, 22, 0, w.vg, v);
-    n
+    // The number of the first word outside its range, counted from 0. REACH is up to m, VI and VG up to v.
+    pub fn first_outside(&self, m: u64, v: u64) -> Option<usize>
+        ensures numbered { number_of result ≡ first_outside m v self.now }
+        ensures a_word { IfSome result (λ k. k < word_count) }
+    {
+        let p = &self.fixed;
+        let w = &self.contents;
+        let mut n = 0;
+        n = next(n, 0, 1, p.area, 5000);
+        n = next(n, 1, 0, p.k, 131072);
+        n = next(n, 2, 0, p.um, 100000);
+        n = next(n, 3, 1, p.lm, 200000);
+        n = next(n, 4, 0, p.dm, 200000);
+        n = next(n, 5, 0, p.c, 65535);
+        n = next(n, 6, 16, p.bn, 32);
+        n = next(n, 7, 0, p.im, 32768);
+        n = next(n, 8, 1, p.sm, 100000);
+        n = next(n, 9, 16, p.xn, 48);
+        n = next(n, 10, 0, p.ki, ONE);
+        n = next(n, 11, 0, p.kg, ONE.saturating_sub(p.ki));
+        n = next(n, 12, 0, p.ci, 65535);
+        n = next(n, 13, 0, p.cg, 65535);
+        n = next(n, 14, 0, p.cs, 65535);
+        n = next(n, 15, 0, self.line.lag, 15);
+        n = next(n, 16, 0, p.reach, m);
+        n = next(n, 17, 0, w.wu, p.um);
+        n = next(n, 18, 0, w.wl, p.lm);
+        n = next(n, 19, 0, w.wd, p.dm);
+        n = next(n, 20, 0, w.g, p.sm);
+        n = next(n, 21, 0, w.vi, v);
+        n = next(n, 22, 0, w.vg, v);
+        (n < WORDS).then_some(n)
+    }
+
+    // Whether 9 allows the record, with REACH up to m.
+    pub fn allowed(&self, m: u64) -> bool
+        ensures { result ≡ record_in m self.now }
+    {
+        if self.first_outside(m, MOST_SLOW).is_some() {
+            return false;
+        }
+        self.channel <= MOST_CONTENT && lag::allowed(&self.line)
+    }
+
+    // Whether the record is all zeros.
+    #[tactic(auto, unfolding(crate::specs::Record::is_blank))]
+    pub fn is_blank(&self) -> bool
+        ensures { result ≡ is_blank self.now }
+    {
+        if self.channel != 0 {
+            return false;
+        }
+        amounts::up_to(0, &self.line.waiting, 0) && amounts::up_to(0, &self.words(), 0)
+    }
 }
 
 // One more than k, where the k words before are inside and x is from lo to hi.
-fn next(n: u64, k: u64, lo: u64, x: u64, hi: u64) -> u64
+fn next(n: usize, k: usize, lo: u64, x: u64, hi: u64) -> usize
     requires { k ≤ 64 }
     ensures { result ≡ further n k lo x hi }
 {
@@ -172,43 +214,4 @@ fn next(n: u64, k: u64, lo: u64, x: u64, hi: u64) -> u64
         }
     }
     n
-}
-
-// 65,536 less the share, and 0 for a share above it.
-fn rest(share: u64) -> u64
-    ensures { result ≡ one - share }
-{
-    if share < ONE {
-        return ONE - share;
-    }
-    0
-}
-
-// Whether 9 allows the record, with REACH up to m.
-pub fn allowed(s: SubBasin, m: u64) -> bool
-    ensures { result ≡ record_in m s }
-{
-    if first_outside(s, m, MOST_SLOW) != WORDS as u64 {
-        return false;
-    }
-    if MOST_CONTENT < s.channel {
-        return false;
-    }
-    let line = s.line;
-    lag::allowed(line)
-}
-
-// Whether the record is all zeros.
-pub fn is_blank(s: SubBasin) -> bool
-    ensures { result ≡ is_blank s }
-{
-    let line = s.line;
-    let waiting = line.waiting;
-    if amounts::up_to(0, &waiting, 0) {
-        if s.channel == 0 {
-            let words = words_of(s);
-            return amounts::up_to(0, &words, 0);
-        }
-    }
-    false
 }

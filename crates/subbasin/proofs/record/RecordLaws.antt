@@ -1,24 +1,27 @@
 -- What the limits of a record say, both ways. Assumes nothing.
-use mathlib.Core.Path.{◌≡◌, refl, sym, ap, ◌∙◌}
+use mathlib.Core.Path.{◌≡◌, refl, sym, ◌∙◌}
 use mathlib.Core.Bool.{Bool, true, false, cond, ◌&&◌, and-true, and-false, true≢false}
 use mathlib.Core.List.{List, [], ◌∷◌}
+use Rattle.std.specs.Prelude.{Option, Some, None, IfSome}
+use Rattle.std.specs.Bool.{then_some}
+use Rattle.std.specs.Option.{is_some}
 use Prim.Native.Nat.{ℕ, suc, ◌+◌, ◌≤◌, ◌<◌}
 use native.Mathlib.Numerals.{add-one}
 use native.Mathlib.Omega.{arith}
-use lib.Dec.{leb, eqb}
+use lib.Dec.{leb, ltb, eqb}
 use lib.ListN.{length, drop}
 use lib.Seq.{take_all}
-use borrow.Author.Tests.{le-leb, lt-leb, leb-true, eq-eqb, ne_eqb, eqb-true}
+use borrow.Author.Tests.{le-leb, lt-leb, leb-true, ltb-false, eq-eqb, eqb-true}
 use Rattle.common.specs.Limits.{within, Word, words_in, first_out}
 use Rattle.common.specs.Amounts.{all_up_to}
-use Rattle.common.proofs.Limits.{both, parts, refuted, within_in, within_limits, Within, words_limits, words_in_lem, within_join, first_none, first_all}
+use Rattle.common.proofs.Limits.{both, parts, refuted, within_in, within_limits, Within, words_limits, words_in_lem, within_join, first_none, first_all, first_le}
 use Rattle.common.proofs.amounts.AmountLaws.{UpTo, all_limits, all_in, listed_take}
 use Rattle.subbasin.specs.declared.record.Parameters.{Parameters}
 use Rattle.subbasin.specs.declared.record.Contents.{Contents}
 use Rattle.subbasin.specs.declared.record.SubBasin.{SubBasin}
 use Rattle.subbasin.specs.Lag.{in_use, most_waiting, line_in}
 use Rattle.subbasin.specs.Workers.{further, leading}
-use Rattle.subbasin.specs.Record.{words, first_outside, words_of, of_words, word_count, most_slow, most_stored, record_in, is_blank, blank_sub}
+use Rattle.subbasin.specs.Record.{words, first_outside, number_of, words_of, of_words, word_count, most_slow, most_stored, record_in, is_blank, blank_sub}
 
 -- ---- the first word outside, as it is looked for
 
@@ -55,6 +58,27 @@ leading_first k (w ∷ ws) = go (within w.lo w.value w.hi) refl (leading_first (
         rw (further_on k k w refl l.0 l.1) (omega arith)
     go false t on stays =
         rw (← (further_not k k w.lo w.value w.hi (λ e l h. true≢false (sym (within_in w.lo w.value w.hi l h) ∙ t)))) (omega arith)
+
+-- and as its answer: a number, or none where none is outside
+module _ (m v : ℕ) (s : SubBasin) where
+  pub first_most : first_outside m v s ≤ word_count
+  unfolding first_outside
+  first_most = first_le (words m v s)
+
+  pub numbered : {n : ℕ} {r : Option ℕ} → n ≡ first_outside m v s → r ≡ then_some (ltb n word_count) n → number_of r ≡ first_outside m v s
+  numbered {n} e h = rw (h, ← e) (go (ltb n word_count) refl)
+    where
+      go : (b : Bool) → ltb n word_count ≡ b → number_of (then_some b n) ≡ n
+      go true t = refl
+      go false t = omega (arith, first_most, ltb-false n word_count t)
+
+pub some_number : (r : Option ℕ) → IfSome r (λ k. k < word_count) → true ≡ is_some r → number_of r ≡ word_count → ⊥
+some_number (Some k) h t e = omega (arith, h)
+some_number None h t e = true≢false t
+
+pub none_number : (r : Option ℕ) → false ≡ is_some r → number_of r ≡ word_count
+none_number (Some k) t = absurd (true≢false (sym t))
+none_number None t = refl
 
 -- ---- what 9 allows
 
@@ -125,22 +149,6 @@ pub words_with : (m m' v v' : ℕ) (s s' : SubBasin) → Within (words m v s) �
 words_with m m' v v' s s' h f l r c = within_join 17 (words m' v' s') (rw (f, l) (omega arith)) (rw f (omega arith))
 
 -- ---- all zeros
-
-module _ (s : SubBasin) where
-  -- its tests, one after the other
-  module _ {b : Bool} (t : b ≡ all_up_to 0 s.line.waiting) where
-    pub some_waits : b ≡ false → false ≡ is_blank s
-    unfolding is_blank
-    some_waits n = sym (rw (sym t ∙ n))
-
-    module _ (y : b ≡ true) where
-      pub some_channel : (s.channel ≡ 0 → ⊥) → false ≡ is_blank s
-      unfolding is_blank
-      some_channel n = sym (rw (sym t ∙ y, ne_eqb s.channel 0 n))
-
-      pub only_words : {words : List ℕ} → s.channel ≡ 0 → words ≡ words_of s → all_up_to 0 words ≡ is_blank s
-      unfolding is_blank
-      only_words z e = ap (all_up_to 0) e ∙ sym (rw (sym t ∙ y, eq-eqb s.channel 0 z))
 
 pub blank_blank : is_blank blank_sub ≡ true
 unfolding is_blank all_up_to

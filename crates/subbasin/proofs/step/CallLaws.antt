@@ -1,5 +1,6 @@
 -- The sub-basin call: accepted inside its limits, refused outside. Assumes nothing.
-use mathlib.Core.Path.{◌≡◌, ap}
+use Rattle.std.specs.Prelude.{Result, Ok, Err, IsOk}
+use mathlib.Core.Path.{◌≡◌, refl, sym, ap, ◌∙◌}
 use mathlib.Core.Bool.{true, cond, ◌&&◌}
 use Prim.Native.Nat.{◌≤◌}
 use native.Mathlib.Omega.{arith}
@@ -7,13 +8,15 @@ use lib.Dec.{leb}
 use borrow.Author.Tests.{le-leb, leb-true}
 use Rattle.common.specs.declared.weather.Weather.{Weather}
 use Rattle.common.specs.Weather.{most_rain, most_pan, WeatherIn}
+use Rattle.common.specs.declared.refusal.Refusal.{Refusal}
+use Rattle.common.proofs.Refusals.{number_some}
 use Rattle.common.proofs.Limits.{by_test, refuted, both, parts}
 use Rattle.subbasin.specs.declared.record.SubBasin.{SubBasin}
-use Rattle.subbasin.specs.declared.step.Stepped.{Stepped}
+use Rattle.subbasin.specs.declared.step.Flows.{Flows}
 use Rattle.subbasin.specs.declared.slices.Sliced.{Sliced}
 use Rattle.subbasin.specs.Record.{record_in}
 use Rattle.subbasin.specs.Slices.{most_slice}
-use Rattle.subbasin.specs.Step.{with_slices, evaporated_of, stepped, stepped_whole, returned, call_in, sub_call, whole_call}
+use Rattle.subbasin.specs.Step.{Stepped, as_stepped, with_slices, evaporated_of, stepped, stepped_whole, returned, call_in, sub_call, whole_call}
 use Rattle.subbasin.proofs.record.RecordLaws.{RecordIn, record_in_lem, record_limits}
 use Rattle.subbasin.proofs.slices.SlicesLaws.{sliced_once}
 
@@ -54,3 +57,29 @@ module _ (s : SubBasin) (w : Weather) where
   call_whole h =
       let ev = evaporated_of s w in
       ap (λ (sl : Sliced). cond (call_in s w) (with_slices s ev sl) (returned s)) (sliced_once s.fixed ev.layers s.contents.g ev.pe h)
+
+-- what an answer says of its call
+module _ (s : SubBasin) (w : Weather) {after : SubBasin} where
+  module _ (f : Flows) (h : as_stepped after (Ok f) ≡ sub_call s w) where
+    pub ok_in : CallIn s w
+    ok_in = step_accepted s w (ap (λ (st : Stepped). st.number) (sym h))
+
+    pub ok_steps : as_stepped after (Ok f) ≡ stepped s w
+    ok_steps = h ∙ step_accepts s w ok_in
+
+  module _ (why : Refusal) (h : as_stepped after (Err why) ≡ sub_call s w) where
+    pub err_out : CallIn s w → ⊥
+    unfolding stepped
+    err_out k = absurd (omega (arith, number_some why, ap (λ (st : Stepped). st.number) (h ∙ step_accepts s w k)))
+
+    -- it hands back what it got
+    pub err_returns : as_stepped after (Err why) ≡ returned s
+    err_returns = h ∙ step_refuses s w err_out
+
+    pub err_keeps : after ≡ s
+    err_keeps = ap (λ (st : Stepped). st.after) err_returns
+
+-- a call inside its limits is accepted
+pub accepted_ok : (s : SubBasin) (w : Weather) (after : SubBasin) (r : Result Flows Refusal) → CallIn s w → as_stepped after r ≡ sub_call s w → IsOk r
+accepted_ok s w after (Ok f) k h = refl
+accepted_ok s w after (Err why) k h = absurd (err_out s w why h k)

@@ -5,11 +5,10 @@ use Rattle.common.specs.declared.weather.Weather.{Weather}
 use Rattle.curve.specs.Store.{outflow, content}
 use Rattle.subbasin.specs.declared.record.SubBasin.{SubBasin}
 use Rattle.subbasin.specs.declared.slices.Sliced.{Sliced}
-use Rattle.subbasin.specs.declared.step.Stepped.{Stepped}
 use Rattle.subbasin.specs.Soil.{ep, deeper, evaporated}
 use Rattle.subbasin.specs.FreeWater.{drained}
 use Rattle.subbasin.specs.Lag.{leaving, waiting_after, entered}
-use Rattle.subbasin.specs.Step.{evaporated_of, with_slices, stepped}
+use Rattle.subbasin.specs.Step.{Stepped, evaporated_of, with_slices, stepped}
 use Rattle.subbasin.proofs.slices.FastLaws.{fast_sliced, sliced_fast}
 
 unfoldable pub fast_stepped : SubBasin → Weather → Stepped

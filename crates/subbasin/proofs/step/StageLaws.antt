@@ -6,14 +6,13 @@ use native.Mathlib.Omega.{arith}
 use Rattle.common.specs.declared.weather.Weather.{Weather}
 use Rattle.common.specs.Weather.{WeatherIn}
 use Rattle.subbasin.specs.declared.record.SubBasin.{SubBasin}
-use Rattle.subbasin.specs.declared.step.Stepped.{Stepped}
 use Rattle.subbasin.specs.Record.{words}
 use Rattle.subbasin.specs.Workers.{SoilIn, LayersIn, FreeIn}
 use Rattle.subbasin.specs.Soil.{ep, evaporated}
 use Rattle.subbasin.specs.FreeWater.{drained}
 use Rattle.subbasin.specs.Slices.{sliced}
 use Rattle.subbasin.specs.Lag.{leaving, entered}
-use Rattle.subbasin.specs.Step.{layers_of, let_go, holds, stepped}
+use Rattle.subbasin.specs.Step.{Stepped, layers_of, let_go, holds, stepped}
 use Rattle.common.proofs.Limits.{Within}
 use Rattle.subbasin.proofs.soil.SoilLaws.{soil_in, layers_in, Evaporates, evaporation, evaporation_in, ep_most}
 use Rattle.subbasin.proofs.free_water.FreeWaterLaws.{free_in, g_in, Drains, drained_drains}

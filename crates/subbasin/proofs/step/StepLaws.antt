@@ -10,12 +10,11 @@ use Rattle.subbasin.specs.declared.record.Parameters.{Parameters}
 use Rattle.common.specs.declared.weather.Weather.{Weather}
 use Rattle.common.specs.Weather.{most_rain, WeatherIn}
 use Rattle.subbasin.specs.declared.record.SubBasin.{SubBasin}
-use Rattle.subbasin.specs.declared.step.Stepped.{Stepped}
 use Rattle.subbasin.specs.Record.{words, most_start, most_slow}
 use Rattle.subbasin.specs.declared.slices.Sliced.{Sliced}
 use Rattle.subbasin.specs.declared.free_water.Drained.{Drained}
 use Rattle.subbasin.specs.Lag.{in_use, most_waiting, leaving, entered}
-use Rattle.subbasin.specs.Step.{rest, let_go, holds, total, stepped}
+use Rattle.subbasin.specs.Step.{Stepped, rest, let_go, holds, total, stepped}
 use Rattle.common.specs.Amounts.{sum}
 use Rattle.subbasin.specs.Content.{water_depth, water}
 use Rattle.common.proofs.Limits.{Within}

@@ -6,10 +6,9 @@ use native.Mathlib.Omega.{arith}
 use borrow.Author.Tests.{le-leb, lt-leb}
 use Rattle.common.specs.Weather.{most_pan}
 use Rattle.subbasin.specs.declared.record.SubBasin.{SubBasin}
-use Rattle.subbasin.specs.declared.yields.Answer.{Answer}
 use Rattle.subbasin.specs.Record.{record_in}
 use Rattle.subbasin.specs.Step.{call_in}
-use Rattle.subbasin.specs.Yields.{most_millimetres, Answers, refused, own_refusal}
+use Rattle.subbasin.specs.Yields.{Answer, most_millimetres, Answers, refused, own_refusal}
 
 module _ (f : ℕ → ℕ) (wanted : ℕ) where
   pub found : (k : ℕ) → k ≤ most_millimetres → wanted ≤ f k → Answers 0 f wanted (record { number = 0; place = 0; none = false; rain = k })

@@ -27,10 +27,13 @@ module _ (p : Parameters) (w e wanted k : ℕ) (soil : SoilIn p) (fits : w ≤ w
   whole_in : walk.whole ≤ wm p
   whole_in = rw so_far (walked_in p w e k fits)
 
-  module _ {next : Walk} (on : next ≡ walked_to p (net_rain e k) walk) where
+  module _ {next : Walk} {mm : ℕ} (here : mm ≡ k) (on : next ≡ walked_to p (net_rain e mm) walk) where
+    on_here : next ≡ walked_to p (net_rain e k) walk
+    on_here = rw (← here) on
+
     next_is : next ≡ walk_at p w (net_rain e k)
     unfolding run
-    next_is = on ∙ ap (walked_to p (net_rain e k)) so_far ∙ walked_at p w e k
+    next_is = on_here ∙ ap (walked_to p (net_rain e k)) so_far ∙ walked_at p w e k
 
     pe_fits : k ≤ 1000 → next.pe + w ≤ 1500000
     pe_fits l = rw next_is (omega (arith, soil))
@@ -46,7 +49,7 @@ module _ (p : Parameters) (w e wanted k : ℕ) (soil : SoilIn p) (fits : w ≤ w
     again l less on-by-one =
         rw on-by-one
         (record {
-          walking = carry_turn h.walking l on;
+          walking = carry_turn h.walking l on_here;
           trying = try_turn h.trying l (lt-ltb (unsoaked p w e k) wanted (omega (arith, left_is, less)));
         })
 
@@ -73,24 +76,24 @@ pub overflow_add-walk : goal.overflow_add-walk
 overflow_add-walk c =
     omega (
       arith,
-      pe_fits _ _ _ _ _ c.requires.0 c.requires.1 c.begin-walk.ensures c.loop-k.invariant c.go_on-walk.ensures
+      pe_fits _ _ _ _ _ c.requires.0 c.requires.1 c.begin-walk.ensures c.loop-k.invariant (omega arith) c.go_on-walk.ensures
           (omega (arith, c.loop-k-test.true)),
     )
 
 pub overflow_sub-walk : goal.overflow_sub-walk
 overflow_sub-walk c =
     w_fits _ _ _ _ _ c.requires.0 c.requires.1 c.begin-walk.ensures c.loop-k.invariant
-    c.go_on-walk.ensures
+    (omega arith) c.go_on-walk.ensures
 
 pub returns-then-wanted-walk : goal.returns-then-wanted-walk
 returns-then-wanted-walk c =
     does _ _ _ _ _ c.requires.0 c.requires.1 c.begin-walk.ensures c.loop-k.invariant
-    c.go_on-walk.ensures (omega (arith, c.loop-k-test.true)) c.if-wanted-walk.true
+    (omega arith) c.go_on-walk.ensures (omega (arith, c.loop-k-test.true)) c.if-wanted-walk.true
 
 pub loop-k-preserved : goal.loop-k-preserved
 loop-k-preserved c =
     again _ _ _ _ _ c.requires.0 c.requires.1 c.begin-walk.ensures c.loop-k.invariant
-    c.go_on-walk.ensures (omega (arith, c.loop-k-test.true)) c.if-wanted-walk.false (omega arith)
+    (omega arith) c.go_on-walk.ensures (omega (arith, c.loop-k-test.true)) c.if-wanted-walk.false (omega arith)
 
 pub returns : goal.returns
 returns c =

@@ -1,4 +1,4 @@
--- `subbasin::step::run` meets its contract: each stage hands the next what it asks. Assumes nothing.
+-- `subbasin::record::SubBasin::run` meets its contract: each stage hands the next what it asks. Assumes nothing.
 use mathlib.Core.Path.{◌≡◌, ap, ◌∙◌}
 use Prim.Native.Nat.{◌+◌, ◌*◌, ◌/◌, ◌≤◌}
 use native.Mathlib.Omega.{arith}
@@ -9,17 +9,16 @@ use Rattle.subbasin.specs.declared.record.SubBasin.{SubBasin}
 use Rattle.subbasin.specs.declared.soil.Evaporated.{Evaporated}
 use Rattle.subbasin.specs.declared.slices.Sliced.{Sliced}
 use Rattle.subbasin.specs.declared.free_water.Drained.{Drained}
-use Rattle.subbasin.specs.declared.step.Stepped.{Stepped}
 use Rattle.subbasin.specs.Workers.{SoilIn, LayersIn, FreeIn}
 use Rattle.subbasin.specs.Soil.{ep, evaporated}
 use Rattle.subbasin.specs.FreeWater.{drained}
 use Rattle.subbasin.specs.Slices.{sliced}
-use Rattle.subbasin.specs.Step.{layers_of, with_drained, with_slices, with_evaporated, stepped}
+use Rattle.subbasin.specs.Step.{Stepped, layers_of, with_drained, with_slices, with_evaporated, stepped}
 use Rattle.subbasin.proofs.record.RecordLaws.{RecordIn, record_limits}
 use Rattle.subbasin.proofs.soil.SoilLaws.{soil_in, layers_in, pan_fits, ep_most, evaporation, evaporation_in}
 use Rattle.subbasin.proofs.free_water.FreeWaterLaws.{free_in, g_in, Drains, drained_drains}
 use Rattle.subbasin.proofs.slices.SlicesLaws.{Falls, sliced_falls}
-use Rattle.subbasin.proofs.step.run.Goals as goal
+use Rattle.subbasin.proofs.record.SubBasin.run.Goals as goal
 
 module _ (s : SubBasin) (fits : RecordIn s.fixed.reach s) where
   soil : SoilIn s.fixed
@@ -67,37 +66,37 @@ module _ (s : SubBasin) (fits : RecordIn s.fixed.reach s) where
 
 pub overflow_mul-p : goal.overflow_mul-p
 overflow_mul-p c =
-    omega (arith, pan_fits _ (soil c.args.s (record_limits _ _ c.requires.0)) _ c.requires.1.pan_most)
+    omega (arith, pan_fits _ (soil c.args.self.now (record_limits _ _ c.requires.0)) _ c.requires.1.pan_most)
 
 pub evaporate-ev-requires : goal.evaporate-ev-requires
 evaporate-ev-requires c =
     let fits = record_limits _ _ c.requires.0 in
-    (soil c.args.s fits, layers c.args.s fits, ep_le c.args.s fits c.args.weather c.requires.1)
+    (soil c.args.self.now fits, layers c.args.self.now fits, ep_le c.args.self.now fits c.args.weather c.requires.1)
 
 pub take_slices-sl-requires : goal.take_slices-sl-requires
 take_slices-sl-requires c =
     let fits = record_limits _ _ c.requires.0 in
     let e = c.evaporate-ev.ensures in (
-      soil c.args.s fits,
-      free c.args.s fits,
-      left_in c.args.s fits c.args.weather e,
-      free_water_in c.args.s fits,
-      omega (arith, c.requires.1.rain_most, pe_le c.args.s fits c.args.weather e),
+      soil c.args.self.now fits,
+      free c.args.self.now fits,
+      left_in c.args.self.now fits c.args.weather e,
+      free_water_in c.args.self.now fits,
+      omega (arith, c.requires.1.rain_most, pe_le c.args.self.now fits c.args.weather e),
     )
 
 pub drain-dr-requires : goal.drain-dr-requires
 drain-dr-requires c =
     let fits = record_limits _ _ c.requires.0 in
-    (free c.args.s fits, (falls_in c.args.s fits c.args.weather c.evaporate-ev.ensures c.take_slices-sl.ensures).kept_most)
+    (free c.args.self.now fits, (falls_in c.args.self.now fits c.args.weather c.evaporate-ev.ensures c.take_slices-sl.ensures).kept_most)
 
 pub route-requires : goal.route-requires
 route-requires c =
     let fits = record_limits _ _ c.requires.0 in
     let e = c.evaporate-ev.ensures in
     let f = c.take_slices-sl.ensures in
-    (c.requires.0, direct_le c.args.s fits c.args.weather e f c.requires.1, drained_le c.args.s fits c.args.weather e f c.drain-dr.ensures)
+    (c.requires.0, direct_le c.args.self.now fits c.args.weather e f c.requires.1, drained_le c.args.self.now fits c.args.weather e f c.drain-dr.ensures)
 
 pub returns : goal.returns
 returns c =
-    chained c.args.s (record_limits _ _ c.requires.0) c.args.weather
+    chained c.args.self.now (record_limits _ _ c.requires.0) c.args.weather
     c.evaporate-ev.ensures c.take_slices-sl.ensures c.drain-dr.ensures c.route.ensures

@@ -1,4 +1,4 @@
--- `subbasin::step::route` meets its contract: no store is outside its limits, and no sum too large. Assumes nothing.
+-- `subbasin::record::SubBasin::route` meets its contract: no store is outside its limits, and no sum too large. Assumes nothing.
 use mathlib.Core.Path.{◌≡◌, ap, ap₂, ◌∙◌}
 use mathlib.Core.List.{◌∷◌}
 use Prim.Native.Nat.{ℕ, ◌+◌, ◌*◌, ◌^◌, ◌≤◌}
@@ -18,7 +18,7 @@ use Rattle.subbasin.specs.Step.{slow_store, let_go, total, gathered, with_draine
 use Rattle.common.proofs.amounts.AmountLaws.{UpTo, up_to_at}
 use Rattle.subbasin.proofs.record.RecordLaws.{RecordIn, record_limits}
 use Rattle.subbasin.proofs.step.StepLaws.{total_fits}
-use Rattle.subbasin.proofs.step.route.Goals as goal
+use Rattle.subbasin.proofs.record.SubBasin.route.Goals as goal
 
 -- the words that the way reads
 record RouteIn (s : SubBasin) : Type 0 where
@@ -90,21 +90,21 @@ slow-requires-2 c = (route_in _ (record_limits _ _ c.requires.0)).cg_in
 pub overflow_add-t-2 : goal.overflow_add-t-2
 overflow_add-t-2 c =
     let h =
-    sums_fit c.args.s c.args.sl c.args.dr (record_limits _ _ c.requires.0) c.requires.1 c.requires.2
+    sums_fit c.args.self.now c.args.sl c.args.dr (record_limits _ _ c.requires.0) c.requires.1 c.requires.2
     c.slow.ensures c.take-interflow.ensures c.slow-2.ensures c.take-ground.ensures
     in omega (arith, h)
 
 pub overflow_add-t-3 : goal.overflow_add-t-3
 overflow_add-t-3 c =
     let h =
-    sums_fit c.args.s c.args.sl c.args.dr (record_limits _ _ c.requires.0) c.requires.1 c.requires.2
+    sums_fit c.args.self.now c.args.sl c.args.dr (record_limits _ _ c.requires.0) c.requires.1 c.requires.2
     c.slow.ensures c.take-interflow.ensures c.slow-2.ensures c.take-ground.ensures
     in omega (arith, h)
 
 pub overflow_mul-t : goal.overflow_mul-t
 overflow_mul-t c =
     let h =
-    t_fits c.args.s c.args.sl c.args.dr (record_limits _ _ c.requires.0) c.requires.1 c.requires.2
+    t_fits c.args.self.now c.args.sl c.args.dr (record_limits _ _ c.requires.0) c.requires.1 c.requires.2
     c.slow.ensures c.take-interflow.ensures c.slow-2.ensures c.take-ground.ensures
     in omega (arith, h)
 
@@ -114,11 +114,11 @@ slow-requires-3 c = (route_in _ (record_limits _ _ c.requires.0)).cs_in
 pub leave-requires : goal.leave-requires
 leave-requires c = (route_in _ (record_limits _ _ c.requires.0)).lag_in
 
-pub enter-requires : goal.enter-requires
-enter-requires c = (route_in _ (record_limits _ _ c.requires.0)).lag_in
+pub enter-self-requires : goal.enter-self-requires
+enter-self-requires c = (route_in _ (record_limits _ _ c.requires.0)).lag_in
 
 pub returns : goal.returns
 returns c =
-    gathers c.args.s c.args.sl c.args.dr (record_limits _ _ c.requires.0) c.requires.1 c.requires.2
+    gathers c.args.self.now c.args.sl c.args.dr (record_limits _ _ c.requires.0) c.requires.1 c.requires.2
     c.slow.ensures c.take-interflow.ensures c.slow-2.ensures c.take-ground.ensures c.args.ev
-    c.slow-3.ensures c.take-channel.ensures c.leave.ensures.answered c.enter.ensures
+    c.slow-3.ensures c.take-channel.ensures c.leave.ensures.answered c.enter-self.ensures

@@ -1,4 +1,4 @@
--- `subbasin::step::step_with` meets its contract. Assumes nothing.
+-- `subbasin::record::SubBasin::step_with` meets its contract. Assumes nothing.
 use mathlib.Core.Path.{◌≡◌, sym, ◌∙◌}
 use mathlib.Core.Bool.{false, true≢false}
 use native.Mathlib.Omega.{arith}
@@ -6,29 +6,29 @@ use Rattle.subbasin.specs.declared.record.SubBasin.{SubBasin}
 use Rattle.subbasin.specs.Record.{record_in}
 use Rattle.subbasin.proofs.record.RecordLaws.{RecordIn, record_in_lem, record_limits}
 use Rattle.subbasin.proofs.step.CallLaws.{step_accepts, step_refuses}
-use Rattle.subbasin.proofs.step.step_with.Goals as goal
+use Rattle.subbasin.proofs.record.SubBasin.step_with.Goals as goal
 
 outside : (s : SubBasin) → record_in s.fixed.reach s ≡ false → RecordIn s.fixed.reach s → ⊥
 outside s n h = true≢false (sym (record_in_lem s.fixed.reach s h) ∙ n)
 
 pub returns-then-weather-gt-MOST_RAIN : goal.returns-then-weather-gt-MOST_RAIN
-returns-then-weather-gt-MOST_RAIN c = c.refuse.ensures ∙ sym (step_refuses _ _ (λ h. omega (arith, h.in_weather.rain_most)))
+returns-then-weather-gt-MOST_RAIN c = sym (step_refuses _ _ (λ h. omega (arith, h.in_weather.rain_most)))
 
 pub returns-then-weather-gt-MOST_PAN : goal.returns-then-weather-gt-MOST_PAN
-returns-then-weather-gt-MOST_PAN c = c.refuse-then-weather-gt-MOST_PAN.ensures ∙ sym (step_refuses _ _ (λ h. omega (arith, h.in_weather.pan_most)))
+returns-then-weather-gt-MOST_PAN c = sym (step_refuses _ _ (λ h. omega (arith, h.in_weather.pan_most)))
+
+pub returns-then-not-allowed : goal.returns-then-not-allowed
+returns-then-not-allowed c = sym (step_refuses _ _ (λ h. outside _ (sym c.allowed.ensures ∙ c.if-not-allowed.true) h.in_record))
 
 pub run-requires : goal.run-requires
-run-requires c = (sym c.allowed.ensures ∙ c.if-allowed.true, omega arith)
+run-requires c = (sym c.allowed.ensures ∙ c.if-not-allowed.false, omega arith)
 
-pub returns-then-allowed : goal.returns-then-allowed
-returns-then-allowed c =
+pub returns : goal.returns
+returns c =
     c.run.ensures
     ∙ sym
     (step_accepts _ _
     (record {
-      in_record = record_limits _ _ (sym c.allowed.ensures ∙ c.if-allowed.true);
+      in_record = record_limits _ _ (sym c.allowed.ensures ∙ c.if-not-allowed.false);
       in_weather = record { rain_most = c.if-weather-gt-MOST_RAIN.false; pan_most = c.if-weather-gt-MOST_PAN.false };
     }))
-
-pub returns : goal.returns
-returns c = c.refuse-2.ensures ∙ sym (step_refuses _ _ (λ h. outside _ (sym c.allowed.ensures ∙ c.if-allowed.false) h.in_record))

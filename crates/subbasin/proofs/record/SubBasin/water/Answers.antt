@@ -1,4 +1,4 @@
--- `subbasin::content::water_of` meets its contract: a sum of sums that stop at 2^64 − 1 stops there too. Assumes nothing.
+-- `subbasin::record::SubBasin::water` meets its contract: a sum of sums that stop at 2^64 − 1 stops there too. Assumes nothing.
 use mathlib.Core.Path.{◌≡◌, ap, ◌∙◌}
 use Prim.Native.Nat.{ℕ, zero, suc, ◌+◌, ◌-◌, ◌*◌, ◌^◌, ◌≤◌}
 use native.Mathlib.Decide.{dec_le}
@@ -7,7 +7,7 @@ use native.Mathlib.Omega.{arith}
 use Rattle.common.specs.Amounts.{sum, capped}
 use Rattle.subbasin.specs.declared.record.SubBasin.{SubBasin}
 use Rattle.subbasin.specs.Content.{water_depth, water}
-use Rattle.subbasin.proofs.content.water_of.Goals as goal
+use Rattle.subbasin.proofs.record.SubBasin.water.Goals as goal
 
 add_capped : (a b : ℕ) {x y r : ℕ} → x ≡ capped a → y ≡ capped b → r ≡ capped (x + y) → r ≡ capped (a + b)
 add_capped a b e f g = omega arith
