@@ -7,9 +7,8 @@ use Rattle.common.specs.Cases.{Row, row}
 use Rattle.forcing.specs.declared.depth.Gauge.{Gauge}
 use Rattle.forcing.specs.declared.depth.Gauge.TheVariants.{Rain, Pan}
 use Rattle.forcing.specs.declared.list.Line.{Line}
-use Rattle.forcing.specs.declared.list.Forcing.{Forcing}
 use Rattle.forcing.specs.Depth.{depth_call}
-use Rattle.forcing.specs.List.{reading}
+use Rattle.forcing.specs.List.{Forcing, reading}
 use Rattle.forcing.specs.File.{line_of}
 
 -- ---- the depth call

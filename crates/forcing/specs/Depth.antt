@@ -1,10 +1,11 @@
 -- One number in millimetres: document 01, "The forcing list", and the depth call of "Who sent it". Depths are in µm.
-use Rattle.std.specs.Prelude.{ℕ, ◌+◌, ◌*◌, ◌/◌, ◌≡◌, Bool, true, false, cond, not, ◌&&◌, ◌↔◌, ltb, leb, eqb, ℤ, Float}
+use Rattle.std.specs.Prelude.{ℕ, ◌+◌, ◌*◌, ◌/◌, ◌≡◌, Bool, true, false, cond, not, ◌&&◌, ◌↔◌, ltb, leb, eqb, ℤ, Float, Result, Ok, Err}
 use Rattle.std.specs.Float.{nan, inf, fin}
 use Rattle.std.specs.Float.Ieee.{up, down}
+use Rattle.common.specs.declared.refusal.Refusal.{Refusal}
+use Rattle.common.specs.Refusals.{number_of as refusal_number}
 use Rattle.forcing.specs.declared.depth.Gauge.{Gauge}
 use Rattle.forcing.specs.declared.depth.Gauge.TheVariants.{Rain, Pan}
-use Rattle.forcing.specs.declared.depth.Depth.{Depth}
 
 -- ---- "The forcing list": depths
 
@@ -54,6 +55,12 @@ above_limit limit a b = ltb (limit * b) a
 unfoldable pub number_of : ℕ → Float → ℕ
 number_of limit x = cond (unfit x) 7 (cond (above_limit limit (numerator x) (denominator x)) 8 0)
 
+-- a depth call's answer, the depth in µm: number and place are 0 where it is accepted
+pub record Depth : Type 0 where
+  pub number : ℕ
+  pub place : ℕ
+  pub depth : ℕ
+
 abbrev pub answer : ℕ → ℕ → Depth
 answer number depth = record { number = number; place = 0; depth = depth }
 
@@ -64,6 +71,11 @@ answer_by number depth = cond (eqb number 0) (answer 0 depth) (answer number 0)
 -- "A depth call on one number, said to be rain or pan, gives 7, or 8 by that one's limit"
 unfoldable pub depth_call : Float → Gauge → Depth
 depth_call x said = answer_by (number_of (limit_of said) x) (depth_of x)
+
+-- the number, place and depth that a call's result stands for
+abbrev pub as_depth : Result ℕ Refusal → Depth
+as_depth (Ok depth) = answer 0 depth
+as_depth (Err why) = answer (refusal_number why) 0
 
 -- what document 01 says of the answer r, beside this rule
 pub record JudgedNumber (x : Float) (said : Gauge) (r : Depth) : Type 0 where

@@ -1,15 +1,17 @@
 -- The lines of one step: document 01, "The forcing list", and refusals 5 to 8 of "Who sent it".
 -- Document 01 counts lines from 1, and so do places; the lists here count from 0.
-use Rattle.std.specs.Prelude.{ℕ, ◌+◌, ◌-◌, ◌≤◌, ◌<◌, ◌≡◌, Bool, true, false, cond, ◌&&◌, ◌↔◌, List, eqb, get_or, replicate}
+use Rattle.std.specs.Prelude.{ℕ, ◌+◌, ◌-◌, ◌≤◌, ◌<◌, ◌≡◌, Bool, true, false, cond, ◌&&◌, ◌↔◌, List, eqb, get_or, replicate, Result, Ok, Err}
 use Rattle.std.specs.Float.{binary32}
 use Rattle.std.specs.Float.Ieee.{of_bits}
 use Rattle.common.specs.declared.weather.Weather.{Weather}
+use Rattle.common.specs.declared.refusal.Refused.{Refused}
+use Rattle.common.specs.Refusals.{number_of as refusal_number}
 use Rattle.common.specs.Weather.{calm}
 use Rattle.common.specs.Loops.{table, sum_of, every, first_bad}
 use Rattle.forcing.specs.declared.list.Reading.{Reading}
 use Rattle.forcing.specs.declared.list.Reading.TheVariants.{Measured, Estimated, Missing}
 use Rattle.forcing.specs.declared.list.Line.{Line}
-use Rattle.forcing.specs.declared.list.Forcing.{Forcing}
+use Rattle.forcing.specs.declared.list.Readings.{Readings}
 use Rattle.forcing.specs.declared.depth.Gauge.TheVariants.{Rain, Pan}
 use Rattle.forcing.specs.Depth.{depth_of, limit_of, from_zero_to, number_of}
 
@@ -78,6 +80,13 @@ line_number l = cond (eqb (rain_number l.rain) 0) (number_of (limit_of Pan) l.pa
 abbrev pub first_bad_line : List Line → ℕ → ℕ × ℕ
 first_bad_line lines n = first_bad (λ k. line_number (line_at lines k)) n
 
+-- the forcing of one step, its weather by sub-basin: number and place are 0 where it is accepted
+pub record Forcing : Type 0 where
+  pub number : ℕ
+  pub place : ℕ
+  pub estimated : ℕ
+  pub weather : List Weather
+
 -- the forcing of a step whose lines 1..n are not bad: "how many estimated lines it had", and the weather of "up to 32 lines"
 abbrev pub accepted : List Line → ℕ → Forcing
 accepted lines n =
@@ -91,6 +100,11 @@ accepted lines n =
 -- "A refused step reports zeros"
 abbrev pub refusal : ℕ → ℕ → Forcing
 refusal number place = record { number = number; place = place; estimated = 0; weather = replicate 32 calm }
+
+-- the forcing that a reading's result stands for
+abbrev pub as_forcing : Result Readings Refused → Forcing
+as_forcing (Ok r) = record { number = 0; place = 0; estimated = r.estimated; weather = r.weather }
+as_forcing (Err e) = refusal (refusal_number e.why) e.place
 
 -- lines 1..n judged
 unfoldable pub judged_lines : List Line → ℕ → Forcing

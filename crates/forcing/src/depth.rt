@@ -2,8 +2,10 @@
 ghost use Rattle.std.specs.Prelude.{◌≡◌, ◌^◌, ◌≤◌, ◌<◌};
 ghost use Rattle.std.specs.Float.{binary32};
 ghost use Rattle.std.specs.Float.Ieee.{of_bits};
-ghost use Rattle.forcing.specs.Depth.{number_of, depth_of, answer, answer_by, depth_call, JudgedNumber};
+ghost use Rattle.forcing.specs.Depth.{number_of, depth_of, limit_of, as_depth, answer_by, depth_call, JudgedNumber};
 ghost use Rattle.forcing.specs.Workers.{Scaled, of_fraction};
+
+use common::refusal::Refusal;
 
 // The limits of rain and pan, in millimetres.
 const MOST_RAIN_MM: u64 = 1000;
@@ -17,91 +19,77 @@ pub enum Gauge {
     Pan,
 }
 
-// A depth call's answer, the depth in µm: number and place are 0 where it is accepted.
-#[derive(Clone, Copy)]
-pub struct Depth {
-    pub number: u64,
-    pub place: u64,
-    pub depth: u64,
+impl Gauge {
+    fn limit(self) -> u64
+        ensures { result ≡ limit_of self }
+    {
+        match self {
+            Gauge::Rain => MOST_RAIN_MM,
+            Gauge::Pan => MOST_PAN_MM,
+        }
+    }
 }
 
-// The depth call on one number in millimetres, said to be rain or pan.
-pub fn depth_of(x: f32, said: Gauge) -> Depth
-    ensures answered { result ≡ depth_call x said }
-    ensures judged { JudgedNumber x said result }
+// The depth call on one number in millimetres, said to be rain or pan: the depth in µm.
+#[tactic(auto, using(crate::proofs::depth::DepthLaws::call_judged), unfolding(crate::specs::Depth::depth_call))]
+pub fn depth_of(x: f32, said: Gauge) -> Result<u64, Refusal>
+    ensures answered { as_depth result ≡ depth_call x said }
+    ensures judged { JudgedNumber x said (as_depth result) }
 {
-    match said {
-        Gauge::Rain => judge(x, MOST_RAIN_MM),
-        Gauge::Pan => judge(x, MOST_PAN_MM),
-    }
+    judge(x, said.limit())
 }
 
 // One number in millimetres, by its limit.
-fn judge(x: f32, limit: u64) -> Depth
+fn judge(x: f32, limit: u64) -> Result<u64, Refusal>
     requires { (1 ≤ limit) × (limit ≤ 1000) }
-    ensures { result ≡ answer_by (number_of limit x) (depth_of x) }
+    ensures { as_depth result ≡ answer_by (number_of limit x) (depth_of x) }
 {
     if x != x {
-        return answer_of(7, 0);
+        return Err(Refusal::BadNumber);
     }
-    judge_bits(wide(f32::to_bits(x)), limit)
+    judge_bits(u64::from(f32::to_bits(x)), limit)
 }
 
 // Sign, exponent and fraction are taken from the 32 bits. The number is significand / 2^places: the fraction over 2^149 where
 // the exponent is 0, and otherwise the fraction with a leading digit before it, over 2^(150 - exponent).
-fn judge_bits(bits: u64, limit: u64) -> Depth
+fn judge_bits(bits: u64, limit: u64) -> Result<u64, Refusal>
     requires { (bits < 2 ^ 32) × (1 ≤ limit) × (limit ≤ 1000) }
-    ensures { result ≡ answer_by (number_of limit (of_bits binary32 bits)) (depth_of (of_bits binary32 bits)) }
+    ensures { as_depth result
+        ≡ answer_by (number_of limit (of_bits binary32 bits)) (depth_of (of_bits binary32 bits)) }
 {
     let exponent = (bits >> 23) & 0xff;
     let fraction = bits & 0x7f_ffff;
     if exponent == 0xff {
-        return answer_of(7, 0);
+        return Err(Refusal::BadNumber);
     }
     // Minus zero is zero.
     if bits == 0x8000_0000 {
-        return answer_of(0, 0);
+        return Ok(0);
     }
     if bits >> 31 == 1 {
-        return answer_of(7, 0);
+        return Err(Refusal::BadNumber);
     }
     if exponent == 0 {
         return scaled(fraction, 149, limit);
     }
     // From 1,024 on, above any limit.
     if 136 < exponent {
-        return answer_of(8, 0);
+        return Err(Refusal::AboveLimit);
     }
     scaled(0x80_0000 + fraction, 150 - exponent, limit)
 }
 
-fn wide(x: u32) -> u64
-    ensures { result ≡ x }
-{
-    x as u64
-}
-
-fn answer_of(number: u64, depth: u64) -> Depth
-    ensures { result ≡ answer number depth }
-{
-    Depth {
-        number: number,
-        place: 0,
-        depth: depth,
-    }
-}
-
 // The number significand / 2^places, by its limit.
-fn scaled(significand: u64, places: u64, limit: u64) -> Depth
+fn scaled(significand: u64, places: u64, limit: u64) -> Result<u64, Refusal>
     requires { Scaled significand places limit }
-    ensures { result ≡ of_fraction limit significand (2 ^ places) }
+    ensures { as_depth result ≡ of_fraction limit significand (2 ^ places) }
 {
     // Below half a µm.
     if 34 < places {
-        return answer_of(0, 0);
+        return Ok(0);
     }
     if limit << places < significand {
-        return answer_of(8, 0);
+        return Err(Refusal::AboveLimit);
     }
-    answer_of(0, (1000 * significand + (1u64 << (places - 1))) >> places)
+    Ok((1000 * significand + (1 << (places - 1))) >> places)
 }

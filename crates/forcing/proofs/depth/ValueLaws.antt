@@ -18,7 +18,7 @@ use lib.Ieee.Nearest.{div_same}
 use Rattle.forcing.specs.Depth.{numerator, denominator, nearest, depth_of, unfit, above_limit, number_of, answer, answer_by}
 use Rattle.forcing.specs.Workers.{of_fraction}
 use Rattle.forcing.proofs.depth.FractionLaws.{is_above, not_above}
-use Rattle.forcing.specs.declared.depth.Depth.{Depth}
+use Rattle.forcing.specs.Depth.{Depth}
 
 -- what judging and rounding make of a number
 abbrev pub of_number : ℕ → Float → Depth

@@ -2,21 +2,20 @@
 -- Assumes nothing.
 use mathlib.Core.Bool.{Bool, true, false, ◌&&◌, cond}
 use mathlib.Core.Path.{◌≡◌, refl, sym, ◌∙◌}
-use Prim.Native.Nat.{ℕ, zero, suc, ◌≤◌, zero-le}
+use Prim.Native.Nat.{ℕ, ◌≤◌, zero-le}
 use native.Mathlib.Omega.{arith}
-use lib.Dec.{eqb, eqb-suc-zero}
+use lib.Dec.{eqb}
 use lib.Ieee.{of_bits}
 use borrow.Author.Tests.{eq-eqb, ne_eqb}
 use Rattle.common.specs.Weather.{most_rain, WeatherIn}
 use Rattle.common.proofs.Limits.{parts}
-use Rattle.forcing.specs.declared.depth.Depth.{Depth}
+use Rattle.forcing.specs.Depth.{Depth}
 use Rattle.forcing.specs.declared.depth.Gauge.TheVariants.{Rain, Pan}
 use Rattle.forcing.specs.declared.list.Reading.{Reading}
 use Rattle.forcing.specs.declared.list.Reading.TheVariants.{Measured, Estimated, Missing}
 use Rattle.forcing.specs.declared.list.Line.{Line}
 use Rattle.forcing.specs.Depth.{numerator, denominator, depth_of, limit_of, from_zero_to, unfit, above_limit, number_of, answer_by}
 use Rattle.forcing.specs.List.{blank, rain_depth, weather_of, rain_inside, line_inside, estimated_of, rain_number, line_number, RainFirst}
-use Rattle.forcing.specs.Workers.{bad_line, good_line, judged_line}
 use Rattle.forcing.proofs.depth.DepthLaws.{number_test, depth_le, answer_number, answer_depth}
 
 -- ---- inside the limits
@@ -71,22 +70,6 @@ estimated_one Missing = omega arith
 -- ---- a line judged
 
 module _ (l : Line) where
-  pub judged_number : (judged_line l).number ≡ line_number l
-  unfolding judged_line
-  judged_number = go (line_number l)
-    where
-      go : (n : ℕ) → (cond (eqb n 0) (good_line l) (bad_line n)).number ≡ n
-      go zero = refl
-      go (suc n) = rw (eqb-suc-zero n)
-
-  pub judged_good : line_number l ≡ 0 → judged_line l ≡ good_line l
-  unfolding judged_line
-  judged_good h = rw (eq-eqb (line_number l) 0 h)
-
-  judged_bad : (n : ℕ) → n ≡ line_number l → (n ≡ 0 → ⊥) → bad_line n ≡ judged_line l
-  unfolding judged_line
-  judged_bad n e h = rw (← e, ne_eqb n 0 h)
-
   -- number and depth of rain and of pan, in the order in which they are judged
   abbrev pub first : ℕ × ℕ
   first = (rain_number l.rain, rain_depth l.rain)
@@ -99,21 +82,15 @@ module _ (l : Line) where
     p_number : p.number ≡ first.0
     p_number = answer_number first.0 first.1 isP
 
-    pub first_bad_lem : (p.number ≡ 0 → ⊥) → bad_line p.number ≡ judged_line l
+    pub first_bad_lem : (p.number ≡ 0 → ⊥) → p.number ≡ line_number l
     unfolding line_number
-    first_bad_lem h = judged_bad p.number (rw (ne_eqb first.0 0 (λ e. h (p_number ∙ e))) p_number) h
+    first_bad_lem h = rw (ne_eqb first.0 0 (λ e. h (p_number ∙ e))) p_number
 
     module _ {e : Depth} (isE : e ≡ answer_by second.0 second.1) (fine : p.number ≡ 0) where
-      e_number : e.number ≡ line_number l
+      pub second_number : e.number ≡ line_number l
       unfolding line_number
-      e_number = rw (eq-eqb first.0 0 (sym p_number ∙ fine)) (answer_number second.0 second.1 isE)
+      second_number = rw (eq-eqb first.0 0 (sym p_number ∙ fine)) (answer_number second.0 second.1 isE)
 
-      pub second_bad : (e.number ≡ 0 → ⊥) → bad_line e.number ≡ judged_line l
-      second_bad h = judged_bad e.number e_number h
-
-      pub line_good : e.number ≡ 0 → {m : ℕ} → m ≡ estimated_of l.rain
-          → record { number = 0; weather = record { rain = p.depth; pan = e.depth }; estimated = m } ≡ judged_line l
+      pub line_good : e.number ≡ 0 → (line_number l ≡ 0) × (record { rain = p.depth; pan = e.depth } ≡ weather_of l)
       unfolding weather_of
-      line_good h isM =
-          rw (isM, answer_depth first.0 first.1 isP fine, answer_depth second.0 second.1 isE h)
-          (sym (judged_good (sym e_number ∙ h)))
+      line_good h = (sym second_number ∙ h, rw (answer_depth first.0 first.1 isP fine, answer_depth second.0 second.1 isE h))

@@ -7,17 +7,13 @@ use Rattle.forcing.proofs.depth.ValueLaws.{infinite_bits, minus_zero_bits, negat
 use Rattle.forcing.proofs.depth.judge_bits.Goals as goal
 
 pub returns-then-exponent-eq255 : goal.returns-then-exponent-eq255
-returns-then-exponent-eq255 c =
-    c.answer_of.ensures ∙ infinite_bits c.args.bits c.args.limit c.requires.0 c.if-exponent-eq255.true
+returns-then-exponent-eq255 c = infinite_bits c.args.bits c.args.limit c.requires.0 c.if-exponent-eq255.true
 
 pub returns-then-bits-eq2147483648 : goal.returns-then-bits-eq2147483648
-returns-then-bits-eq2147483648 c =
-    c.answer_of-then-bits-eq2147483648.ensures ∙ minus_zero_bits c.args.bits c.args.limit c.requires.0 c.if-bits-eq2147483648.true
+returns-then-bits-eq2147483648 c = minus_zero_bits c.args.bits c.args.limit c.requires.0 c.if-bits-eq2147483648.true
 
 pub returns-then-bits-eq1 : goal.returns-then-bits-eq1
-returns-then-bits-eq1 c =
-    c.answer_of-then-bits-eq1.ensures
-    ∙ negative_bits c.args.bits c.args.limit c.requires.0 c.if-exponent-eq255.false c.if-bits-eq2147483648.false c.if-bits-eq1.true
+returns-then-bits-eq1 c = negative_bits c.args.bits c.args.limit c.requires.0 c.if-exponent-eq255.false c.if-bits-eq2147483648.false c.if-bits-eq1.true
 
 pub scaled-requires : goal.scaled-requires
 scaled-requires c = omega (arith, mask_lt c.args.bits 23)
@@ -29,8 +25,7 @@ returns-then-exponent-eq0 c =
 
 pub returns-then-exponent-gt136 : goal.returns-then-exponent-gt136
 returns-then-exponent-gt136 c =
-    c.answer_of-then-exponent-gt136.ensures
-    ∙ large_bits c.args.bits c.args.limit c.requires.0 c.if-exponent-eq255.false c.if-bits-eq1.false c.requires.2 c.if-exponent-gt136.true
+    large_bits c.args.bits c.args.limit c.requires.0 c.if-exponent-eq255.false c.if-bits-eq1.false c.requires.2 c.if-exponent-gt136.true
 
 pub overflow_add-fraction : goal.overflow_add-fraction
 overflow_add-fraction c = omega (arith, mask_lt c.args.bits 23)

@@ -11,17 +11,17 @@ pub returns-then-places-gt34 : goal.returns-then-places-gt34
 returns-then-places-gt34 c =
     let a = c.args in
     let p = c.requires in
-    c.answer_of.ensures ∙ small_fraction a.limit a.significand a.places c.if-places-gt34.true p.digits p.some
+    small_fraction a.limit a.significand a.places c.if-places-gt34.true p.digits p.some
 
 pub returns-then-limit-places : goal.returns-then-limit-places
 returns-then-limit-places c =
     let a = c.args in
     let p = c.requires in
     let e = limit_shift a.limit a.places p.limited c.if-places-gt34.false in
-    c.answer_of-then-limit-places.ensures ∙ over_limit a.limit a.significand a.places (rw e at c.if-limit-places.true)
+    over_limit a.limit a.significand a.places (rw e at c.if-limit-places.true)
 
-pub overflow_add-significand : goal.overflow_add-significand
-overflow_add-significand c =
+pub overflow_add-result : goal.overflow_add-result
+overflow_add-result c =
     let p = c.args.places in
     omega (arith, half_shift p c.if-places-gt34.false, half_le p c.if-places-gt34.false)
 
@@ -31,6 +31,5 @@ returns c =
     let p = c.requires in
     let e = limit_shift a.limit a.places p.limited c.if-places-gt34.false in
     let half = half_shift a.places c.if-places-gt34.false in
-    c.answer_of-2.ensures
-    ∙ ap (λ (n : ℕ). answer 0 ((1000 * a.significand + n) / 2 ^ a.places)) half
+    ap (λ (n : ℕ). answer 0 ((1000 * a.significand + n) / 2 ^ a.places)) half
     ∙ within_limit a.limit a.significand a.places (omega arith) (rw e at c.if-limit-places.false)

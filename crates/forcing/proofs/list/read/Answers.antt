@@ -5,16 +5,18 @@ use native.Mathlib.Numerals.{add-one}
 use native.Mathlib.Omega.{arith}
 use borrow.Author.Tests.{eq-eqb, ne_eqb}
 use lib.ListN.{length, get_or, set, get_or-eq_default}
+use Rattle.common.specs.declared.refusal.Refusal.{Refusal}
+use Rattle.common.specs.declared.refusal.Refusal.TheVariants.{RainMissing}
 use Rattle.common.specs.declared.weather.Weather.{Weather}
+use Rattle.common.specs.Refusals.{number_of}
+use Rattle.common.proofs.Refusals.{number_some}
 use Rattle.common.proofs.amounts.AmountLaws.{get_or_within}
 use Rattle.common.proofs.Loops.{fill_begin, fill_turn, fill_end, seek_begin, seek_turn, seek_found, seek_end}
 use Rattle.common.proofs.Loops.{add_begin, add_turn, add_end, sum_bound}
 use Rattle.forcing.specs.declared.list.Line.{Line}
-use Rattle.forcing.specs.declared.list.Judged.{Judged}
-use Rattle.forcing.specs.declared.list.Forcing.{Forcing}
-use Rattle.forcing.specs.List.{blank, line_at, estimated_of, line_number, refusal, judged_lines, reading, JudgedList}
-use Rattle.forcing.specs.Workers.{judged_line}
-use Rattle.forcing.proofs.list.LineLaws.{blank_number, estimated_one, judged_number, judged_good}
+use Rattle.forcing.specs.List.{Forcing}
+use Rattle.forcing.specs.List.{blank, line_at, weather_of, estimated_of, line_number, refusal, judged_lines, reading, JudgedList}
+use Rattle.forcing.proofs.list.LineLaws.{blank_number, estimated_one}
 use Rattle.forcing.proofs.list.ReadLaws.{miscounted, reading_judged}
 use Rattle.forcing.proofs.list.read.Invariants.{Before}
 use Rattle.forcing.proofs.list.read.Goals as goal
@@ -37,59 +39,52 @@ module _ {lines : List Line} {count n : ℕ} {weather : List Weather} {estimated
   ended h = rw (eq-eqb count n counted, seek_end b.seeking h, fill_end b.filling h, add_end b.adding h)
 
   -- the next line is bad
-  stops : at < n → {number : ℕ} → number ≡ line_number (line_at lines at) → (number ≡ 0 → ⊥)
-      → refusal number (at + 1) ≡ reading lines count n
+  stops : at < n → (why : Refusal) → number_of why ≡ line_number (line_at lines at) → refusal (number_of why) (at + 1) ≡ reading lines count n
   unfolding reading judged_lines
-  stops h {number} e bad = rw (eq-eqb count n counted, seek_found b.seeking h (λ z. bad (e ∙ z)), ← e, ne_eqb number 0 bad, add-one at)
+  stops h why e =
+      let bad : number_of why ≡ 0 → ⊥ = λ z. omega (arith, number_some why) in
+      rw (eq-eqb count n counted, seek_found b.seeking h (λ z. bad (e ∙ z)), ← e, ne_eqb (number_of why) 0 bad, add-one at)
 
   module _ (len : length lines ≡ 32) (h : at < n) where
     missing : 31 < at → refusal 6 (at + 1) ≡ reading lines count n
-    missing k = stops h (sym (ap line_number (get_or-eq_default lines blank {n = at} (omega arith)) ∙ blank_number)) (λ z. omega arith)
+    missing k = stops h RainMissing (sym (ap line_number (get_or-eq_default lines blank {n = at} (omega arith)) ∙ blank_number))
 
     -- it is judged
-    module _ (within : at ≤ 31) (other : Line) {j : Judged} (isJ : j ≡ judged_line (get_or lines at other)) where
-      here : j ≡ judged_line (line_at lines at)
-      here = isJ ∙ ap judged_line (get_or_within lines at other blank (omega arith))
+    module _ (within : at ≤ 31) (other : Line) where
+      here : get_or lines at other ≡ line_at lines at
+      here = get_or_within lines at other blank (omega arith)
 
-      number : j.number ≡ line_number (line_at lines at)
-      number = ap (λ (x : Judged). x.number) here ∙ judged_number (line_at lines at)
+      found : (why : Refusal) → number_of why ≡ line_number (get_or lines at other) → refusal (number_of why) (at + 1) ≡ reading lines count n
+      found why e = stops h why (e ∙ ap line_number here)
 
-      found : (j.number ≡ 0 → ⊥) → refusal j.number (at + 1) ≡ reading lines count n
-      found bad = stops h number bad
-
-      turn : j.number ≡ 0 → Before lines n (set weather at j.weather) (estimated + j.estimated) (at + 1)
-      turn good =
-          let e = sym number ∙ good in
-          let g = here ∙ judged_good (line_at lines at) e in
+      turn : {w : Weather} {m : ℕ} → (line_number (get_or lines at other) ≡ 0) × (w ≡ weather_of (get_or lines at other))
+          → m ≡ estimated_of (get_or lines at other).rain → Before lines n (set weather at w) (estimated + m) (at + 1)
+      turn good e =
           record {
-            filling = fill_turn b.filling h (ap (λ (x : Judged). x.weather) g);
-            seeking = seek_turn b.seeking h e;
-            adding = add_turn b.adding h (ap (λ (x : Judged). x.estimated) g);
+            filling = fill_turn b.filling h (good.1 ∙ ap weather_of here);
+            seeking = seek_turn b.seeking h (ap line_number (sym here) ∙ good.0);
+            adding = add_turn b.adding h (e ∙ ap (λ (l : Line). estimated_of l.rain) here);
           }
 
 pub returns-then-count-n : goal.returns-then-count-n
-returns-then-count-n c = answered _ _ _ (c.refuse.ensures ∙ sym (miscounted c.args.lines _ _ c.if-count-n.true))
+returns-then-count-n c = answered _ _ _ (sym (miscounted c.args.lines _ _ c.if-count-n.true))
 
 pub loop-at-init : goal.loop-at-init
 loop-at-init c = record { filling = fill_begin; seeking = seek_begin; adding = add_begin }
 
 pub returns-then-at-gt31 : goal.returns-then-at-gt31
 returns-then-at-gt31 c =
-    answered _ _ _
-    (c.refuse-then-at-gt31.ensures
-    ∙ missing c.loop-at.invariant c.if-count-n.false c.well_formed.0.1.0.1 c.loop-at-test.true c.if-at-gt31.true)
+    answered _ _ _ (missing c.loop-at.invariant c.if-count-n.false c.well_formed.0.1.0.1 c.loop-at-test.true c.if-at-gt31.true)
 
-pub returns-then-judged-ne0 : goal.returns-then-judged-ne0
-returns-then-judged-ne0 c =
+pub returns-in-Err : goal.returns-in-Err
+returns-in-Err c =
     answered _ _ _
-    (c.refuse-then-judged-ne0.ensures
-    ∙ found c.loop-at.invariant c.if-count-n.false c.well_formed.0.1.0.1 c.loop-at-test.true c.if-at-gt31.false _
-    c.judge_line-judged.ensures c.if-judged-ne0.true)
+    (found c.loop-at.invariant c.if-count-n.false c.well_formed.0.1.0.1 c.loop-at-test.true c.if-at-gt31.false _ c.in-Err.why c.in-Err.ensures.bad)
 
 pub loop-at-preserved : goal.loop-at-preserved
 loop-at-preserved c =
     turn c.loop-at.invariant c.if-count-n.false c.well_formed.0.1.0.1 c.loop-at-test.true c.if-at-gt31.false _
-    c.judge_line-judged.ensures c.if-judged-ne0.false
+    c.in-Ok.ensures.good c.mark-estimated.ensures
 
 pub overflow_add-estimated : goal.overflow_add-estimated
 overflow_add-estimated c = omega (arith, few (loop-at-preserved c))

@@ -1,7 +1,7 @@
 -- `forcing::list::read` meets its contract: three loops in one, that fills in the weather, seeks a bad line and adds up the marks.
--- The measure is how many lines are left. Assumes nothing.
+-- Assumes nothing.
 use mathlib.Core.List.{List}
-use Prim.Native.Nat.{ℕ, ◌-◌}
+use Prim.Native.Nat.{ℕ}
 use lib.ListN.{replicate}
 use Rattle.common.specs.declared.weather.Weather.{Weather}
 use Rattle.common.specs.Weather.{calm}
@@ -19,6 +19,3 @@ pub record Before (lines : List Line) (n : ℕ) (weather : List Weather) (estima
 
 abbrev pub invariant-loop-at : goal.invariant-loop-at
 invariant-loop-at l = Before l.lines l.n l.weather l.estimated l.at
-
-abbrev pub decreases-loop-at : goal.decreases-loop-at
-decreases-loop-at l = l.n - l.at
