@@ -86,9 +86,8 @@ fn first_out_sub(bytes: &[u8], n: u64, m: u64) -> u64
     let mut i: u64 = 0;
     while i < n {
         let s = sub_at(bytes, i);
-        let k = record::first_outside(s, m, MOST_START);
-        if k != SUB_WORDS {
-            return SUB_WORDS * i + k;
+        if let Some(k) = s.first_outside(m, MOST_START) {
+            return SUB_WORDS * i + k as u64;
         }
         i += 1;
     }
@@ -116,7 +115,7 @@ fn subs_of(bytes: &[u8], n: u64) -> [SubBasin; 32]
     requires { n ≤ 32 }
     ensures { result ≡ table (λ i. file_sub bytes.now i) blank_sub n 32 }
 {
-    let blank = record::of_words([0u64; record::WORDS]);
+    let blank = SubBasin::from([0; record::WORDS]);
     let mut subs = [blank; 32];
     let mut i: u64 = 0;
     while i < n {
@@ -156,7 +155,7 @@ fn sub_at(bytes: &[u8], i: u64) -> SubBasin
         v[k as usize] = x;
         k += 1;
     }
-    record::of_words(v)
+    v.into()
 }
 
 // Reach j, counted from 0, after n sub-basins. It starts empty.

@@ -5,7 +5,6 @@ ghost use Rattle.basin.specs.Workers.{records_in};
 
 use crate::reach::Reach;
 use crate::state::{Basin, MOST_REACHES, MOST_SUBS};
-use subbasin::record;
 use subbasin::record::SubBasin;
 
 // Whether all is inside its limits but the sub-basins in use, which their own steps judge.
@@ -34,14 +33,14 @@ pub fn subs_used(subs: &[SubBasin; 32], n: u64, m: u64) -> bool
     requires { n ≤ 32 }
     ensures { result ≡ subs_used m n subs.now }
 {
-    subs[..n as usize].iter().all(|s| record::allowed(*s, m))
+    subs[..n as usize].iter().all(|s| s.allowed(m))
 }
 
 fn subs_blank(subs: &[SubBasin; 32], n: u64) -> bool
     requires { n ≤ 32 }
     ensures { result ≡ subs_blank n subs.now }
 {
-    subs[n as usize..].iter().all(|s| record::is_blank(*s))
+    subs[n as usize..].iter().all(|s| s.is_blank())
 }
 
 fn reaches_used(reaches: &[Reach; 31], m: u64) -> bool

@@ -1,7 +1,6 @@
--- `basin::network::pass` meets its contract: the store call is inside its limits. Assumes nothing.
+-- `basin::reach::Reach::pass` meets its contract: the store call is inside its limits. Assumes nothing.
 use mathlib.Core.Path.{◌≡◌, ap, ◌∙◌}
 use Prim.Native.Nat.{ℕ}
-use native.Mathlib.Omega.{arith}
 use Rattle.curve.specs.declared.store.Store.{Store}
 use Rattle.curve.specs.declared.store.Released.{Released}
 use Rattle.curve.specs.Store.{released, store_call}
@@ -9,7 +8,7 @@ use Rattle.curve.proofs.store.StoreLaws.{store_accepts}
 use Rattle.basin.specs.declared.reach.Reach.{Reach}
 use Rattle.basin.specs.Network.{g_of, reach_out, reach_after}
 use Rattle.basin.specs.Workers.{Passing}
-use Rattle.basin.proofs.network.pass.Goals as goal
+use Rattle.basin.proofs.reach.Reach.pass.Goals as goal
 
 abbrev store_of : Reach → Store
 store_of r = record { a = r.c0; g = g_of r; content = r.content }
@@ -21,8 +20,5 @@ module _ (r : Reach) (i : ℕ) (h : Passing r i) {x : Released} (called : x ≡ 
   passes : (◌≡◌ {A = Reach} (record { c0 = r.c0; c1 = r.c1; next = r.next; content = x.store.content }) (reach_after r i)) × (x.outflow ≡ reach_out r i)
   passes = (rw x_is, ap (λ (y : Released). y.outflow) x_is)
 
-pub overflow_add-store : goal.overflow_add-store
-overflow_add-store c = omega (arith, c.requires.g_most)
-
 pub returns : goal.returns
-returns c = passes _ _ c.requires c.take-out.ensures
+returns c = passes _ _ c.requires c.take-taken.ensures
