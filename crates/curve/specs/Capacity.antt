@@ -1,9 +1,10 @@
 -- Document 01, "The capacity curve", and its calls in "Who sent it".
-use Rattle.std.specs.Prelude.{Bool, cond, ◌&&◌, List, ℕ, ◌+◌, ◌-◌, ◌*◌, ◌/◌, ◌%◌, min, leb, eqb}
+use Rattle.std.specs.Prelude.{Bool, cond, ◌&&◌, List, Result, Ok, Err, ℕ, ◌+◌, ◌-◌, ◌*◌, ◌/◌, ◌%◌, min, leb, eqb}
 use Rattle.common.specs.Shares.{one}
 use Rattle.common.specs.Limits.{within}
 use Rattle.common.specs.Loops.{run, table, greatest, smallest}
-use Rattle.curve.specs.declared.capacity.Answer.{Answer}
+use Rattle.common.specs.Refusals.{number_of}
+use Rattle.common.specs.declared.refusal.Refusal.{Refusal}
 
 -- "greatest whole r with r × r ≤ t × 65,536"; such an r is at most t × 65,536 itself
 unfoldable pub root : ℕ → ℕ
@@ -62,6 +63,12 @@ last_above m t = m - (t * m + (one - 1)) / one
 unfoldable pub rise : ℕ → ℕ → ℕ → ℕ → ℕ → ℕ
 rise c m e w pe = held c m e (min (ordinate c m e w + pe) m)
 
+-- what a call answers: number and place are 0 where it is accepted
+pub record Answer : Type 0 where
+  pub number : ℕ
+  pub place : ℕ
+  pub value : ℕ
+
 -- an accepted call
 abbrev pub value : ℕ → Answer
 value v = record { number = 0; place = 0; value = v }
@@ -69,6 +76,11 @@ value v = record { number = 0; place = 0; value = v }
 -- 10, place 0; "Curve refusals report 0"
 abbrev pub refused : Answer
 refused = record { number = 10; place = 0; value = 0 }
+
+-- the number, place and value that an answer stands for
+abbrev pub as_answer : Result ℕ Refusal → Answer
+as_answer (Ok v) = value v
+as_answer (Err why) = record { number = number_of why; place = 0; value = 0 }
 
 -- the calls: "t, e, a, w, c or m outside 0..65,536, 16..48, 0..m, 0..c, 1..500,000, 1..2,000,000"
 abbrev pub least_e : ℕ

@@ -1,8 +1,10 @@
 -- Document 01, "The store law", and the store call in "Who sent it".
-use Rattle.std.specs.Prelude.{Bool, cond, ◌&&◌, ℕ, ◌+◌, ◌-◌, ◌*◌, ◌/◌, ◌^◌, leb}
+use Rattle.std.specs.Prelude.{Bool, cond, ◌&&◌, Result, Ok, Err, ℕ, ◌+◌, ◌-◌, ◌*◌, ◌/◌, ◌^◌, leb}
 use Rattle.common.specs.Shares.{one}
+use Rattle.common.specs.Refusals.{number_of}
+use Rattle.common.specs.declared.refusal.Refusal.{Refusal}
 use Rattle.curve.specs.declared.store.Store.{Store}
-use Rattle.curve.specs.declared.store.Released.{Released}
+use Rattle.curve.specs.declared.store.Taken.{Taken}
 
 -- O = (a × I + g × V) / 65,536
 unfoldable pub outflow : ℕ → ℕ → ℕ → ℕ → ℕ
@@ -22,6 +24,13 @@ most_content = 2 ^ 56
 unfoldable pub store_in : Store → ℕ → Bool
 store_in s i = leb s.a one && leb s.g one && leb i most_inflow && leb s.content most_content
 
+-- what a store answers: number and place are 0 where it is accepted
+pub record Released : Type 0 where
+  pub number : ℕ
+  pub place : ℕ
+  pub store : Store
+  pub outflow : ℕ
+
 -- the store after its inflow, and its outflow
 abbrev pub released : Store → ℕ → Released
 released s i =
@@ -35,6 +44,14 @@ released s i =
 -- 10, place 0, the store as it was, outflow 0
 abbrev pub kept : Store → Released
 kept s = record { number = 10; place = 0; store = s; outflow = 0 }
+
+-- the number, place, store and outflow that an answer stands for
+abbrev pub released_of : Store → Result ℕ Refusal → Released
+released_of s (Ok o) = record { number = 0; place = 0; store = s; outflow = o }
+released_of s (Err why) = record { number = number_of why; place = 0; store = s; outflow = 0 }
+
+abbrev pub as_released : Taken → Released
+as_released t = released_of t.store t.outflow
 
 unfoldable pub store_call : Store → ℕ → Released
 store_call s i = cond (store_in s i) (released s i) (kept s)

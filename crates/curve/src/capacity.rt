@@ -2,22 +2,23 @@
 ghost use Rattle.std.specs.Prelude.{◌≡◌, not, ◌+◌, ◌≤◌, ◌<◌};
 ghost use Rattle.common.specs.Shares.{one};
 ghost use Rattle.curve.specs.Capacity.{printed_roots, held, held_at, least_share, ordinate};
-ghost use Rattle.curve.specs.Capacity.{least_e, most_e, most_c, most_m, curve_in, value, refused, root_call, power_call, held_call, ordinate_call};
+ghost use Rattle.curve.specs.Capacity.{least_e, most_e, most_c, most_m, curve_in, as_answer, root_call, power_call, held_call, ordinate_call};
 
 use crate::powers::{NEWTON, TABLE};
 use crate::{guesses, powers, roots};
 use common::amounts::least;
+use common::refusal::Refusal;
 use common::shares::ONE;
 
 // A table of roots, to be lent: whatever stands in it, an answer is the same, and by the printed one it comes soonest.
 pub type Roots = [u32; 1024];
 
-// What a call of the curve answers: number and place are 0 where it is accepted.
+// A capacity curve: its mean and its greatest point capacity, and its exponent.
 #[derive(Clone, Copy)]
-pub struct Answer {
-    pub number: u64,
-    pub place: u64,
-    pub value: u64,
+pub struct Curve {
+    pub c: u64,
+    pub m: u64,
+    pub e: u64,
 }
 
 // The limits of a curve call.
@@ -30,23 +31,23 @@ const MOST_C: u64 = 500000;
 const MOST_M: u64 = 2000000;
 
 // The greatest r with r * r <= t * 65,536, by Newton's steps.
-pub fn root(t: u64) -> Answer
-    ensures { result ≡ root_call t }
+pub fn root(t: u64) -> Result<u64, Refusal>
+    ensures { as_answer result ≡ root_call t }
 {
     if ONE < t {
-        return refuse();
+        return Err(Refusal::OutOfRange);
     }
-    accept(powers::root_of(t))
+    Ok(powers::root_of(t))
 }
 
 // The same, by the printed table.
-pub fn root_by_table(t: u64) -> Answer
-    ensures { result ≡ root_call t }
+pub fn root_by_table(t: u64) -> Result<u64, Refusal>
+    ensures { as_answer result ≡ root_call t }
 {
     if ONE < t {
-        return refuse();
+        return Err(Refusal::OutOfRange);
     }
-    accept(roots::root_of(t))
+    Ok(roots::root_of(t))
 }
 
 // The printed table. A call that is lent none makes it anew.
@@ -57,87 +58,55 @@ pub fn printed_roots() -> Roots
 }
 
 // The share t raised to e / 16, its roots by Newton's steps.
-pub fn power(t: u64, e: u64) -> Answer
-    ensures { result ≡ power_call t e }
+pub fn power(t: u64, e: u64) -> Result<u64, Refusal>
+    ensures { as_answer result ≡ power_call t e }
 {
     power_by(NEWTON, t, e)
 }
 
 // The same, its roots by the printed table.
-pub fn power_by_table(t: u64, e: u64) -> Answer
-    ensures { result ≡ power_call t e }
+pub fn power_by_table(t: u64, e: u64) -> Result<u64, Refusal>
+    ensures { as_answer result ≡ power_call t e }
 {
     power_by(TABLE, t, e)
 }
 
-// What is held below the ordinate a, by the curve of mean capacity c and greatest point capacity m.
-pub fn held(c: u64, m: u64, e: u64, a: u64) -> Answer
-    ensures { result ≡ held_call c m e a }
-{
-    let roots = roots::printed();
-    held_with(&roots, c, m, e, a)
+impl Curve {
+    // What is held below the ordinate a.
+    pub fn held(self, roots: &Roots, a: u64) -> Result<u64, Refusal>
+        ensures { as_answer result ≡ held_call self.c self.m self.e a }
+    {
+        if outside(self.c, self.m, self.e) {
+            return Err(Refusal::OutOfRange);
+        }
+        if self.m < a {
+            return Err(Refusal::OutOfRange);
+        }
+        Ok(held_of(roots, self.c, self.m, self.e, a))
+    }
+
+    // The greatest ordinate below which at most w is held.
+    pub fn ordinate(self, roots: &Roots, w: u64) -> Result<u64, Refusal>
+        ensures { as_answer result ≡ ordinate_call self.c self.m self.e w }
+    {
+        if outside(self.c, self.m, self.e) {
+            return Err(Refusal::OutOfRange);
+        }
+        if self.c < w {
+            return Err(Refusal::OutOfRange);
+        }
+        Ok(ordinate_of(roots, self.c, self.m, self.e, w))
+    }
 }
 
-// The greatest ordinate below which at most w is held.
-pub fn ordinate(c: u64, m: u64, e: u64, w: u64) -> Answer
-    ensures { result ≡ ordinate_call c m e w }
-{
-    let roots = roots::printed();
-    ordinate_with(&roots, c, m, e, w)
-}
-
-// Root, Held and Ordinate with a table that is lent.
-pub fn root_with(roots: &Roots, t: u64) -> Answer
-    ensures { result ≡ root_call t }
+// The same, by a table that is lent.
+pub fn root_with(roots: &Roots, t: u64) -> Result<u64, Refusal>
+    ensures { as_answer result ≡ root_call t }
 {
     if ONE < t {
-        return refuse();
+        return Err(Refusal::OutOfRange);
     }
-    accept(roots::root_with(roots, t))
-}
-
-pub fn held_with(roots: &Roots, c: u64, m: u64, e: u64, a: u64) -> Answer
-    ensures { result ≡ held_call c m e a }
-{
-    if outside(c, m, e) {
-        return refuse();
-    }
-    if m < a {
-        return refuse();
-    }
-    accept(held_of(roots, c, m, e, a))
-}
-
-pub fn ordinate_with(roots: &Roots, c: u64, m: u64, e: u64, w: u64) -> Answer
-    ensures { result ≡ ordinate_call c m e w }
-{
-    if outside(c, m, e) {
-        return refuse();
-    }
-    if c < w {
-        return refuse();
-    }
-    accept(ordinate_of(roots, c, m, e, w))
-}
-
-fn accept(v: u64) -> Answer
-    ensures { result ≡ value v }
-{
-    Answer {
-        number: 0,
-        place: 0,
-        value: v,
-    }
-}
-
-fn refuse() -> Answer
-    ensures { result ≡ refused }
-{
-    Answer {
-        number: 10,
-        place: 0,
-        value: 0,
-    }
+    Ok(roots::root_with(roots, t))
 }
 
 // Whether c, m or e is outside its limits.
@@ -165,20 +134,20 @@ fn outside(c: u64, m: u64, e: u64) -> bool
     false
 }
 
-fn power_by(led: bool, t: u64, e: u64) -> Answer
-    ensures { result ≡ power_call t e }
+fn power_by(led: bool, t: u64, e: u64) -> Result<u64, Refusal>
+    ensures { as_answer result ≡ power_call t e }
 {
     if ONE < t {
-        return refuse();
+        return Err(Refusal::OutOfRange);
     }
     if e < LEAST_E {
-        return refuse();
+        return Err(Refusal::OutOfRange);
     }
     if MOST_E < e {
-        return refuse();
+        return Err(Refusal::OutOfRange);
     }
     let roots = roots::printed();
-    accept(powers::power_of(led, &roots, t, e))
+    Ok(powers::power_of(led, &roots, t, e))
 }
 
 fn held_of(roots: &Roots, c: u64, m: u64, e: u64, a: u64) -> u64

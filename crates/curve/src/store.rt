@@ -1,8 +1,9 @@
 // The store law: document 01, "The store law". One store serves interflow, ground water, channel and reach.
 ghost use Rattle.std.specs.Prelude.{◌≡◌, ◌+◌, ◌≤◌};
 ghost use Rattle.common.specs.Shares.{one};
-ghost use Rattle.curve.specs.Store.{outflow, most_inflow, most_content, kept, store_call};
+ghost use Rattle.curve.specs.Store.{outflow, most_inflow, most_content, as_released, store_call};
 
+use common::refusal::Refusal;
 use common::shares::ONE;
 
 // The shares a of the inflow and g of the content, in parts of 65,536; the content in µm or m³.
@@ -13,13 +14,11 @@ pub struct Store {
     pub content: u64,
 }
 
-// A store's answer: number and place are 0 where it is accepted.
+// A store after its inflow, and its outflow; where it refuses, the store as it was.
 #[derive(Clone, Copy)]
-pub struct Released {
-    pub number: u64,
-    pub place: u64,
+pub struct Taken {
     pub store: Store,
-    pub outflow: u64,
+    pub outflow: Result<u64, Refusal>,
 }
 
 // The limits of a store call.
@@ -29,8 +28,8 @@ pub const MOST_CONTENT: u64 = 72057594037927936; // 2^56
 
 impl Store {
     // Takes the inflow, and hands back the store and its outflow.
-    pub fn take(mut self, inflow: u64) -> Released
-        ensures { result ≡ store_call self inflow }
+    pub fn take(mut self, inflow: u64) -> Taken
+        ensures { as_released result ≡ store_call self inflow }
     {
         if ONE < self.a {
             return refuse(self);
@@ -46,11 +45,9 @@ impl Store {
         }
         let out = outflow_of(self.a, self.g, self.content, inflow);
         self.content = self.content + inflow - out;
-        Released {
-            number: 0,
-            place: 0,
+        Taken {
             store: self,
-            outflow: out,
+            outflow: Ok(out),
         }
     }
 }
@@ -66,13 +63,11 @@ fn outflow_of(a: u64, g: u64, v: u64, i: u64) -> u64
     a * (i / ONE) + g * (v / ONE) + (low_i + low_v) / ONE
 }
 
-fn refuse(s: Store) -> Released
-    ensures { result ≡ kept s }
+fn refuse(store: Store) -> Taken
+    ensures { result ≡ record { store = store; outflow = Err Refusal.OutOfRange } }
 {
-    Released {
-        number: 10,
-        place: 0,
-        store: s,
-        outflow: 0,
+    Taken {
+        store,
+        outflow: Err(Refusal::OutOfRange),
     }
 }

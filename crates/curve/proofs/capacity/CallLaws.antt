@@ -1,16 +1,23 @@
 -- The calls of the curve: accepted inside their limits, and refused outside; and a rise made of two of them. Assumes nothing.
-use mathlib.Core.Path.{◌≡◌, sym, ap, ◌∙◌}
+use mathlib.Core.Path.{◌≡◌, refl, sym, ap, ◌∙◌}
 use mathlib.Core.Bool.{Bool, true, false, not, true≢false, ◌&&◌}
 use Prim.Native.Nat.{ℕ, ◌+◌, ◌≤◌, min}
 use native.Mathlib.Omega.{arith}
 use borrow.Author.Tests.{not-false}
+use Rattle.std.specs.Prelude.{Result, Ok, Err, IsOk}
+use Rattle.common.specs.declared.refusal.Refusal.{Refusal}
 use Rattle.common.specs.Shares.{one}
 use Rattle.common.specs.Limits.{within}
 use Rattle.common.proofs.Limits.{refuted, both, parts, within_in, within_limits}
-use Rattle.curve.specs.declared.capacity.Answer.{Answer}
+use Rattle.common.proofs.Refusals.{number_some}
 use Rattle.curve.specs.Capacity.{root, power, held, ordinate, rise}
-use Rattle.curve.specs.Capacity.{value, refused, least_e, most_e, most_c, most_m, curve_in, root_call, power_call, held_call, ordinate_call}
+use Rattle.curve.specs.Capacity.{Answer, as_answer, value, refused, least_e, most_e, most_c, most_m, curve_in, root_call, power_call, held_call, ordinate_call}
 use Rattle.curve.proofs.capacity.HeldLaws.{ordinate_le}
+
+-- an accepted answer is Ok: no refusal has the number 0
+pub accepted : (r : Result ℕ Refusal) {v : ℕ} → as_answer r ≡ value v → r ≡ Ok v
+accepted (Ok x) h = ap (λ (x : ℕ). Ok x) (ap (λ (a : Answer). a.value) h)
+accepted (Err why) h = absurd (omega (arith, number_some why, ap (λ (a : Answer). a.number) h))
 
 pub root_accepts : (t : ℕ) → t ≤ one → root_call t ≡ value (root t)
 unfolding root_call
@@ -102,16 +109,30 @@ module _ (c m e : ℕ) where
   unfolding ordinate_call
   ordinate_refuses w n = rw (point_out w c n)
 
--- a rise by two calls: from the ordinate of w up by net rain, and what is held there
-module _ {c m e w : ℕ} {from : Answer} (curve : CurveIn c m e) (below : w ≤ c) (called : from ≡ ordinate_call c m e w) where
-  from_is : from.value ≡ ordinate c m e w
-  from_is = ap (λ (a : Answer). a.value) (called ∙ ordinate_accepts c m e w curve below)
+  -- and their answers there
+  pub held_ok : (a : ℕ) {r : Result ℕ Refusal} → CurveIn c m e → a ≤ m → as_answer r ≡ held_call c m e a → r ≡ Ok (held c m e a)
+  held_ok a {r} h k called = accepted r (called ∙ held_accepts a h k)
 
-  pub from_le : from.value ≤ m
+  pub ordinate_ok : (w : ℕ) {r : Result ℕ Refusal} → CurveIn c m e → w ≤ c → as_answer r ≡ ordinate_call c m e w → r ≡ Ok (ordinate c m e w)
+  ordinate_ok w {r} h k called = accepted r (called ∙ ordinate_accepts w h k)
+
+-- so it can be unwrapped, to one value
+pub unwraps : {r : Result ℕ Refusal} {v : ℕ} → r ≡ Ok v → IsOk r
+unwraps is = rw is refl
+
+pub unwrapped : {r : Result ℕ Refusal} {x v : ℕ} → r ≡ Ok v → r ≡ Ok x → x ≡ v
+unwrapped is got = ap (λ (r : Result ℕ Refusal). (as_answer r).value) (sym got ∙ is)
+
+-- a rise by two calls: from the ordinate of w up by net rain, and what is held there
+module _ {c m e w from : ℕ} {r : Result ℕ Refusal} (curve : CurveIn c m e) (below : w ≤ c) (called : as_answer r ≡ ordinate_call c m e w) (got : r ≡ Ok from) where
+  from_is : from ≡ ordinate c m e w
+  from_is = unwrapped (ordinate_ok c m e w curve below called) got
+
+  pub from_le : from ≤ m
   from_le = omega (arith, from_is, ordinate_le c m e w)
 
-  pub risen : (pe : ℕ) {k : ℕ} {to : Answer} → k ≡ min (from.value + pe) m → to ≡ held_call c m e k → to.value ≡ rise c m e w pe
+  pub risen : (pe : ℕ) {k to : ℕ} {s : Result ℕ Refusal} → k ≡ min (from + pe) m → as_answer s ≡ held_call c m e k → s ≡ Ok to → to ≡ rise c m e w pe
   unfolding rise
-  risen pe {k} {to} at h =
+  risen pe {k} at asked there =
       let up : k ≡ min (ordinate c m e w + pe) m = at ∙ ap (λ (x : ℕ). min (x + pe) m) from_is in
-      ap (λ (a : Answer). a.value) (h ∙ held_accepts c m e k curve (omega arith)) ∙ ap (held c m e) up
+      unwrapped (held_ok c m e k curve (omega (arith, at)) asked) there ∙ ap (held c m e) up

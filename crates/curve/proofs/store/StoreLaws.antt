@@ -1,16 +1,20 @@
 -- The store law: it conserves, and the bounds that it keeps, once for all shares; its call is accepted inside its limits and refused
 -- outside. Assumes nothing.
-use mathlib.Core.Path.{◌≡◌, ap}
+use mathlib.Core.Path.{◌≡◌, ap, ◌∙◌}
 use mathlib.Core.Bool.{true, ◌&&◌}
 use Prim.Native.Nat.{ℕ, ◌+◌, ◌-◌, ◌*◌, ◌≤◌, ◌<◌}
 use native.Mathlib.Nat.{le_refl, mul-le-mul_left, mul-le-mul_right}
 use native.Mathlib.Omega.{arith}
 use lib.Dec.{leb}
 use borrow.Author.Tests.{le-leb, leb-true}
+use Rattle.std.specs.Prelude.{Result, Ok, Err}
 use Rattle.common.specs.Shares.{one}
+use Rattle.common.specs.declared.refusal.Refusal.{Refusal}
 use Rattle.common.proofs.Limits.{refuted, parts}
+use Rattle.common.proofs.Refusals.{number_some}
 use Rattle.curve.specs.declared.store.Store.{Store}
-use Rattle.curve.specs.Store.{outflow, content, most_inflow, most_content, store_in, released, kept, store_call}
+use Rattle.curve.specs.declared.store.Taken.{Taken}
+use Rattle.curve.specs.Store.{outflow, content, most_inflow, most_content, store_in, Released, released, kept, released_of, as_released, store_call}
 
 module _ {a g : ℕ} (a-le : a ≤ one) (g-le : g ≤ one) where
   -- a store lets out no more than it has
@@ -98,3 +102,14 @@ store_limits s i h =
 pub store_refuses : (s : Store) (i : ℕ) → (InLimits s i → ⊥) → store_call s i ≡ kept s
 unfolding store_call
 store_refuses s i n = rw (refuted (store_in s i) (λ h. n (store_limits s i h)))
+
+-- an accepted answer: the store after its inflow, and its outflow as Ok
+abbrev pub taken : Store → ℕ → Taken
+taken s i = record { store = (released s i).store; outflow = Ok (released s i).outflow }
+
+pub store_takes : (s : Store) (i : ℕ) {t : Taken} → InLimits s i → as_released t ≡ store_call s i → t ≡ taken s i
+store_takes s i {t} h called = go t.store t.outflow (called ∙ store_accepts s i h)
+  where
+    go : (st : Store) (o : Result ℕ Refusal) → released_of st o ≡ released s i → ◌≡◌ {A = Taken} (record { store = st; outflow = o }) (taken s i)
+    go st (Ok o) is = ap (λ (r : Released). record { store = r.store; outflow = Ok r.outflow }) is
+    go st (Err why) is = absurd (omega (arith, number_some why, ap (λ (r : Released). r.number) is))

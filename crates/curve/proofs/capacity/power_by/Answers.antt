@@ -6,13 +6,13 @@ use Rattle.curve.proofs.capacity.CallLaws.{power_accepts, power_refuses}
 use Rattle.curve.proofs.capacity.power_by.Goals as goal
 
 pub returns-then-t-gt-ONE : goal.returns-then-t-gt-ONE
-returns-then-t-gt-ONE c = c.refuse.ensures ∙ sym (power_refuses _ _ (λ h. omega (arith, h)))
+returns-then-t-gt-ONE c = sym (power_refuses _ _ (λ h. omega (arith, h)))
 
 pub returns-then-e-lt-LEAST_E : goal.returns-then-e-lt-LEAST_E
-returns-then-e-lt-LEAST_E c = c.refuse-then-e-lt-LEAST_E.ensures ∙ sym (power_refuses _ _ (λ h. omega (arith, h)))
+returns-then-e-lt-LEAST_E c = sym (power_refuses _ _ (λ h. omega (arith, h)))
 
 pub returns-then-e-gt-MOST_E : goal.returns-then-e-gt-MOST_E
-returns-then-e-gt-MOST_E c = c.refuse-then-e-gt-MOST_E.ensures ∙ sym (power_refuses _ _ (λ h. omega (arith, h)))
+returns-then-e-gt-MOST_E c = sym (power_refuses _ _ (λ h. omega (arith, h)))
 
 pub returns : goal.returns
-returns c = c.accept.ensures ∙ ap (λ v. value v) c.power_of.ensures.0 ∙ sym (power_accepts _ _ (omega arith))
+returns c = ap (λ v. value v) c.power_of.ensures.0 ∙ sym (power_accepts _ _ (omega arith))

@@ -6,7 +6,7 @@ use Rattle.curve.proofs.capacity.CallLaws.{root_accepts, root_refuses}
 use Rattle.curve.proofs.capacity.root_with.Goals as goal
 
 pub returns-then-t-gt-ONE : goal.returns-then-t-gt-ONE
-returns-then-t-gt-ONE c = c.refuse.ensures ∙ sym (root_refuses _ (λ h. omega (arith, h)))
+returns-then-t-gt-ONE c = sym (root_refuses _ (λ h. omega (arith, h)))
 
 pub returns : goal.returns
-returns c = c.accept.ensures ∙ ap (λ v. value v) c.root_with.ensures.0 ∙ sym (root_accepts _ (omega arith))
+returns c = ap (λ v. value v) c.root_with.ensures.0 ∙ sym (root_accepts _ (omega arith))
