@@ -2,3 +2,4 @@ pub mod StageLaws
 pub mod FastLaws
 pub mod StepLaws
 pub mod CallLaws
+pub mod RouteLaws

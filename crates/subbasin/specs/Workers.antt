@@ -6,7 +6,7 @@ use Rattle.common.specs.Limits.{within, Word}
 use Rattle.subbasin.specs.declared.record.Parameters.{Parameters}
 use Rattle.subbasin.specs.declared.soil.Layers.{Layers}
 use Rattle.subbasin.specs.declared.slices.Sliced.{Sliced}
-use Rattle.subbasin.specs.declared.slices.Curve.{Curve}
+use Rattle.curve.specs.declared.capacity.Curve.{Curve}
 use Rattle.subbasin.specs.declared.walk.Walk.{Walk}
 use Rattle.subbasin.specs.Soil.{wm, mm, rb, gain}
 use Rattle.subbasin.specs.FreeWater.{ms}

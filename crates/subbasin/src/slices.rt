@@ -8,8 +8,7 @@ use crate::record::Parameters;
 use crate::soil::{Layers, Runoff};
 use crate::{free_water, soil};
 use common::amounts::least;
-use curve::capacity;
-use curve::capacity::Roots;
+use curve::capacity::{Curve, Roots};
 
 // The depth of a slice; the last is the rest.
 pub const SLICE: u64 = 5000;
@@ -22,14 +21,6 @@ pub struct Sliced {
     pub rs: u64,
     pub layers: Layers,
     pub kept: u64,
-}
-
-// A capacity curve: its mean and its greatest point capacity, and its exponent.
-#[derive(Clone, Copy)]
-pub struct Curve {
-    c: u64,
-    m: u64,
-    e: u64,
 }
 
 // Net rain pe on the layers w and the free water g, slice by slice.
@@ -104,15 +95,8 @@ pub fn raise(roots: &Roots, curve: Curve, w: u64, pe: u64) -> u64
     requires { (curve_in curve.c curve.m curve.e ≡ true) × (w ≤ curve.c) × (pe ≤ 1000000) }
     ensures { result ≡ rise curve.c curve.m curve.e w pe }
 {
-    let from = capacity::ordinate_with(roots, curve.c, curve.m, curve.e, w);
-    let to = capacity::held_with(
-        roots,
-        curve.c,
-        curve.m,
-        curve.e,
-        least(from.value + pe, curve.m),
-    );
-    to.value
+    let from = curve.ordinate(roots, w).unwrap();
+    curve.held(roots, least(from + pe, curve.m)).unwrap()
 }
 
 // A slice's runoff, and what is kept after it, added to what the slices before it gave.

@@ -2,11 +2,12 @@
 ghost use Rattle.std.specs.Prelude.{◌≡◌, true, ◌+◌, ◌≤◌};
 ghost use Rattle.common.specs.Shares.{one};
 ghost use Rattle.common.specs.Weather.{WeatherIn};
+ghost use Rattle.curve.specs.Store.{most_inflow, most_content};
 ghost use Rattle.subbasin.specs.Record.{record_in};
-ghost use Rattle.subbasin.specs.Step.{slow_store, with_drained, stepped, as_stepped, sub_call, AsBefore};
+ghost use Rattle.subbasin.specs.Step.{holds, let_go, with_drained, stepped, as_stepped, sub_call, AsBefore};
 
 use crate::free_water::Drained;
-use crate::record::{Contents, SubBasin};
+use crate::record::SubBasin;
 use crate::slices::Sliced;
 use crate::soil::{Evaporated, Layers};
 use crate::{free_water, lag, slices, soil};
@@ -76,31 +77,23 @@ impl SubBasin {
     }
 
     // The slow stores, the lag line and the channel.
+    #[tactic(auto, using(crate::proofs::step::RouteLaws::route_in, crate::proofs::step::RouteLaws::t_fits, crate::proofs::step::RouteLaws::leaving_fits))]
     fn route(&mut self, ev: Evaporated, sl: Sliced, dr: Drained) -> Flows
         requires { (record_in self.old.fixed.reach self.old ≡ true) × (sl.rs + sl.rb ≤ 1100000) × (dr.ri + dr.rg ≤ 100000) }
         ensures { as_stepped self.new (Ok result) ≡ with_drained self.old ev sl dr }
     {
         let p = self.fixed;
-        let w = self.contents;
         let line = self.line;
-        let interflow = slow(p.ci, w.vi).take(dr.ri);
-        let ground = slow(p.cg, w.vg).take(dr.rg);
-        let t = (sl.rs + sl.rb + interflow.outflow + ground.outflow) * p.area;
-        let channel = slow(p.cs, self.channel).take(lag::leave(line, t));
-        let layers = sl.layers;
-        let vi = interflow.store;
-        let vg = ground.store;
-        let ch = channel.store;
-        self.contents = Contents {
-            wu: layers.wu,
-            wl: layers.wl,
-            wd: layers.wd,
-            g: dr.g,
-            vi: vi.content,
-            vg: vg.content,
-        };
+        let ti = pass(p.ci, &mut self.contents.vi, dr.ri);
+        let tg = pass(p.cg, &mut self.contents.vg, dr.rg);
+        let t = (sl.rs + sl.rb + ti + tg) * p.area;
+        let q = pass(p.cs, &mut self.channel, lag::leave(line, t));
         self.line = lag::enter(line, t);
-        self.channel = ch.content;
+        let layers = sl.layers;
+        self.contents.wu = layers.wu;
+        self.contents.wl = layers.wl;
+        self.contents.wd = layers.wd;
+        self.contents.g = dr.g;
         Flows {
             eu: ev.eu,
             el: ev.el,
@@ -110,19 +103,25 @@ impl SubBasin {
             rs: sl.rs,
             ri: dr.ri,
             rg: dr.rg,
-            q: channel.outflow,
+            q,
         }
     }
 }
 
-// A store that keeps the same share, its recession, of inflow and content.
-fn slow(recession: u64, content: u64) -> Store
-    requires { recession ≤ one }
-    ensures { result ≡ slow_store recession content }
+// The inflow goes through a store that keeps the same share, its recession, of inflow and content. What it lets go.
+fn pass(recession: u64, content: &mut u64, inflow: u64) -> u64
+    requires { (recession ≤ one) × (content.old ≤ most_content) × (inflow ≤ most_inflow) }
+    ensures holds { content.new ≡ holds recession content.old inflow }
+    ensures lets_go { result ≡ let_go recession content.old inflow }
+    ensures within { result ≤ content.old + inflow }
 {
-    Store {
-        a: ONE - recession,
-        g: ONE - recession,
-        content,
+    let share = ONE - recession;
+    let taken = Store {
+        a: share,
+        g: share,
+        content: *content,
     }
+    .take(inflow);
+    *content = taken.store.content;
+    taken.outflow.unwrap()
 }

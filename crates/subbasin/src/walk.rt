@@ -6,10 +6,10 @@ ghost use Rattle.subbasin.specs.Slices.{most_slice};
 ghost use Rattle.subbasin.specs.Workers.{SoilIn, soil_curve, soaked, unwalked, climbed, walked_to, net_rain};
 
 use crate::record::Parameters;
-use crate::slices::{Curve, SLICE};
+use crate::slices::SLICE;
 use crate::{slices, soil};
 use common::amounts::least;
-use curve::capacity::Roots;
+use curve::capacity::{Curve, Roots};
 
 // At a rain: PE, its whole slices, the tension water after these, and after all of PE.
 #[derive(Drop)]

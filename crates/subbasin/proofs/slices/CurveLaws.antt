@@ -5,7 +5,7 @@ use Prim.Native.Nat.{ℕ, ◌≤◌}
 use Rattle.curve.specs.Capacity.{curve_in, rise}
 use Rattle.curve.proofs.capacity.CallLaws.{curve_in_lem}
 use Rattle.subbasin.specs.declared.record.Parameters.{Parameters}
-use Rattle.subbasin.specs.declared.slices.Curve.{Curve}
+use Rattle.curve.specs.declared.capacity.Curve.{Curve}
 use Rattle.subbasin.specs.Workers.{SoilIn, FreeIn, soil_curve, free_curve}
 use Rattle.subbasin.specs.Soil.{wm, mm}
 use Rattle.subbasin.specs.FreeWater.{ms, level}

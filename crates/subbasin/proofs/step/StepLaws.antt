@@ -27,7 +27,7 @@ use Rattle.subbasin.proofs.step.StageLaws.{Depths, depths, amount, Routes, route
 slow_conserves : (share v i : ℕ) → holds share v i + let_go share v i ≡ v + i
 slow_conserves share = store_conserves {a = rest share} {g = rest share} (omega arith) (omega arith)
 
-slow_within : (share v i : ℕ) → let_go share v i ≤ v + i
+pub slow_within : (share v i : ℕ) → let_go share v i ≤ v + i
 slow_within share = store_within {a = rest share} {g = rest share} (omega arith) (omega arith)
 
 pub line_in_lem : (m : ℕ) (s : SubBasin) → RecordIn m s → length s.line.waiting ≡ 15 → LineIn s.line
