@@ -52,12 +52,12 @@ pub record Ran : Type 0 where
   pub report : Report
 
 -- what an answer stands for, with the basin as it then is: number and place are 0 where no step was refused
+abbrev pub ran_of : Basin → ℕ → Report → Option Refused → Ran
+ran_of b count report None = record { number = 0; place = 0; basin = b; count = count; report = report }
+ran_of b count report (Some r) = record { number = number_of r.why; place = r.place; basin = b; count = count; report = report }
+
 abbrev pub as_ran : Basin → Week → Ran
-as_ran b w = told b w w.refusal
-  where
-    told : Basin → Week → Option Refused → Ran
-    told b w None = record { number = 0; place = 0; basin = b; count = w.count; report = w.report }
-    told b w (Some r) = record { number = number_of r.why; place = r.place; basin = b; count = w.count; report = w.report }
+as_ran b w = ran_of b w.count w.report w.refusal
 
 -- summed reports; the content is the later one's
 abbrev pub joined : Report → Report → Report

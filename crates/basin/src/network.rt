@@ -46,6 +46,6 @@ impl Reach {
         };
         let taken = store.take(inflow);
         self.content = taken.store.content;
-        taken.outflow
+        taken.outflow.unwrap()
     }
 }

@@ -26,7 +26,7 @@ pub struct Report {
     pub estimated: u64,
 }
 
-// The report of a step that is refused.
+// The report of no step.
 pub const ZEROS: Report = Report {
     rain: 0,
     evapotranspiration: 0,

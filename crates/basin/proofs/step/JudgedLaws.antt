@@ -1,16 +1,20 @@
 -- What is said of the step call beside its equation: what is accepted, and what a refusal is. Assumes nothing.
-use mathlib.Core.Path.{◌≡◌, refl, sym, ◌∙◌}
+use mathlib.Core.Path.{◌≡◌, refl, sym, ap, ◌∙◌}
 use mathlib.Core.Bool.{Bool, true, false, true≢false}
 use mathlib.Core.List.{List}
 use Prim.Native.Nat.{ℕ}
 use native.Mathlib.Omega.{arith}
 use borrow.Author.Tests.{eqb-false}
+use Rattle.std.proofs.Common.{Ok, Err}
+use Rattle.common.specs.declared.refusal.Refused.{Refused as Reason}
+use Rattle.common.proofs.Refusals.{number_some}
 use Rattle.forcing.specs.declared.list.Line.{Line}
 use Rattle.forcing.specs.List.{reading, is_inside}
 use Rattle.forcing.proofs.list.ReadLaws.{accepted_test}
 use Rattle.basin.specs.declared.state.Basin.{Basin}
+use Rattle.basin.specs.declared.step.Report.{Report}
 use Rattle.basin.specs.Limits.{others_in, basin_in}
-use Rattle.basin.specs.Step.{Outcome, taken, refused_step, answered, step_call, Judged}
+use Rattle.basin.specs.Step.{Outcome, taken, refused_step, as_outcome, answered, step_call, Judged}
 use Rattle.basin.proofs.limits.LimitsLaws.{basin_others}
 
 module _ (b : Basin) (lines : List Line) (count : ℕ) where
@@ -59,3 +63,16 @@ pub answers : (b : Basin) (lines : List Line) (count : ℕ) {o : Outcome} → o 
     → record { answers : o ≡ step_call b lines count; judges : Judged b lines count o }
 answers b lines count e =
     record { answers = e; judges = rw e (judged_cases b lines count (basin_in b) (is_inside lines count b.n) refl refl) }
+
+-- what an answer of the code says of its call
+module _ (b : Basin) (lines : List Line) (count : ℕ) (after : Basin) where
+  pub ok_accepted : (r : Report) → as_outcome after (Ok r) ≡ step_call b lines count → (step_call b lines count).number ≡ 0
+  ok_accepted r e = ap (λ (o : Outcome). o.number) (sym e)
+
+  module _ (w : Reason) (e : as_outcome after (Err w) ≡ step_call b lines count) where
+    pub err_refused : (step_call b lines count).number ≡ 0 → ⊥
+    err_refused z = omega (arith, number_some w.why, ap (λ (o : Outcome). o.number) e ∙ z)
+
+    -- it leaves the basin as it was
+    pub err_keeps : after ≡ b
+    err_keeps = ((answers b lines count e).judges.refused (λ z. omega (arith, number_some w.why, z))).unchanged
