@@ -14,11 +14,10 @@ use Rattle.subbasin.proofs.record.RecordLaws.{blank_blank}
 use Rattle.subbasin.proofs.step.StepLaws.{Sound, sound_file}
 use Rattle.basin.specs.declared.reach.Reach.{Reach}
 use Rattle.basin.specs.declared.state.Basin.{Basin}
-use Rattle.basin.specs.declared.file.Loaded.{Loaded}
-use Rattle.basin.specs.declared.step.Outcome.{Outcome}
-use Rattle.basin.specs.declared.week.Ran.{Ran}
+use Rattle.basin.specs.Step.{Outcome}
+use Rattle.basin.specs.Week.{Ran}
 use Rattle.basin.specs.State.{sub_at, reach_at, content_of}
-use Rattle.basin.specs.File.{file_n, file_m, file_sub, file_reach, file_basin, load_call, FileIn}
+use Rattle.basin.specs.File.{Loaded, file_n, file_m, file_sub, file_reach, file_basin, load_call, FileIn}
 use Rattle.basin.specs.Step.{step_call, Judged}
 use Rattle.basin.specs.Calls.{Call, results, last_basin}
 use Rattle.basin.specs.Week.{fits, week_calls, after, together, untaken, week_taken, week_call}
@@ -28,7 +27,7 @@ use Rattle.basin.proofs.reach.ReachLaws.{ReachWords, blank_reach_blank}
 use Rattle.basin.proofs.file.LoadedLaws.{load_limits, load_holds_file, file_sub_words, file_reach_words, file_subs_length, file_reaches_length}
 use Rattle.basin.proofs.file.LoadedLaws.{file_sub_lem, file_sub_past, file_reach_lem, file_reach_past, file_sub_empty, file_reach_empty}
 use Rattle.basin.proofs.network.CapLaws.{held_empty}
-use Rattle.basin.proofs.step.CallLaws.{answers}
+use Rattle.basin.proofs.step.JudgedLaws.{answers}
 use Rattle.basin.proofs.Sound.{caps_in, SoundBasin, sound_allowed}
 use Rattle.basin.proofs.Singles.{rains_of_file, one_call, sound_last, unchanged_last, lost, list_balances, last_append, lost_append, results_ruled, up_to_outside_lem}
 

@@ -13,19 +13,19 @@ use Rattle.common.specs.Loops.{run, filled, sum_of, every, first_bad}
 use Rattle.common.specs.Bytes.{word_at}
 use Rattle.common.specs.Weather.{calm}
 use Rattle.curve.specs.Store.{outflow, content}
-use Rattle.forcing.specs.declared.list.Forcing.{Forcing}
+use Rattle.forcing.specs.List.{Forcing}
 use Rattle.forcing.specs.Depth.{numerator, denominator, nearest, depth_of, from_zero_to, unfit, above_limit, number_of}
 use Rattle.forcing.specs.List.{weather_of, line_inside, is_inside, line_number, refusal, judged_lines, reading}
 use Rattle.subbasin.specs.declared.record.Contents.{Contents}
 use Rattle.subbasin.specs.declared.record.SubBasin.{SubBasin}
-use Rattle.subbasin.specs.declared.step.Stepped.{Stepped}
+use Rattle.subbasin.specs.Step.{Stepped}
 use Rattle.subbasin.specs.Record.{of_words, blank_sub}
 use Rattle.subbasin.specs.Content.{water}
 use Rattle.subbasin.specs.Step.{stepped}
 use Rattle.subbasin.proofs.step.FastLaws.{fast_stepped, stepped_fast}
 use Rattle.basin.specs.declared.state.Basin.{Basin}
-use Rattle.basin.specs.declared.step.Outcome.{Outcome}
-use Rattle.basin.specs.declared.week.Ran.{Ran}
+use Rattle.basin.specs.Step.{Outcome}
+use Rattle.basin.specs.Week.{Ran}
 use Rattle.basin.specs.Reach.{blank_reach}
 use Rattle.basin.specs.State.{content_of}
 use Rattle.basin.specs.File.{file_n, file_sub, file_reach, file_basin, sub_words, reaches_words, load_words, load_length, load_counts, load_call}

@@ -8,18 +8,17 @@ use lib.Dec.{eqb}
 use lib.ListN.{length}
 use borrow.Author.Tests.{eq-eqb}
 use Rattle.forcing.specs.declared.list.Line.{Line}
-use Rattle.forcing.specs.declared.list.Forcing.{Forcing}
+use Rattle.forcing.specs.List.{Forcing}
 use Rattle.forcing.specs.List.{refusal, is_inside}
 use Rattle.forcing.proofs.list.ReadLaws.{accepted_test}
 use Rattle.subbasin.specs.declared.record.Parameters.{Parameters}
 use Rattle.subbasin.specs.declared.record.SubBasin.{SubBasin}
 use Rattle.basin.specs.declared.state.Basin.{Basin}
 use Rattle.basin.specs.declared.step.Report.{Report}
-use Rattle.basin.specs.declared.step.Outcome.{Outcome}
-use Rattle.basin.specs.declared.week.Ran.{Ran}
+use Rattle.basin.specs.Step.{Outcome}
+use Rattle.basin.specs.Week.{Ran}
 use Rattle.basin.specs.State.{sub_at, content_of}
-use Rattle.basin.specs.declared.file.Loaded.{Loaded}
-use Rattle.basin.specs.File.{file_n, file_sub, file_basin, load_call}
+use Rattle.basin.specs.File.{Loaded, file_n, file_sub, file_basin, load_call}
 use Rattle.basin.specs.Step.{taken, refused_step, step_call}
 use Rattle.basin.specs.Calls.{Call, results}
 use Rattle.basin.specs.Week.{fits, together, untaken, week_call}

@@ -14,7 +14,7 @@ use Rattle.common.specs.Weather.{calm}
 use Rattle.common.specs.Cases.{Row, Agree}
 use Rattle.curve.specs.Cases.{curve_cases}
 use Rattle.curve.proofs.Cases.{curve_cases_lem}
-use Rattle.forcing.specs.declared.list.Forcing.{Forcing}
+use Rattle.forcing.specs.List.{Forcing}
 use Rattle.forcing.specs.Depth.{numerator, denominator, nearest, depth_of, from_zero_to, unfit, above_limit, number_of}
 use Rattle.forcing.specs.List.{weather_of, line_inside, is_inside, line_number, refusal, judged_lines, reading}
 use Rattle.forcing.proofs.Cases.{sixteenth}
@@ -27,8 +27,8 @@ use Rattle.subbasin.proofs.step.FastLaws.{fast_stepped, stepped_fast}
 use Rattle.subbasin.proofs.Cases.{step_a, step_cases_lem}
 use Rattle.basin.specs.declared.state.Basin.{Basin}
 use Rattle.basin.specs.declared.step.Report.{Report}
-use Rattle.basin.specs.declared.step.Outcome.{Outcome}
-use Rattle.basin.specs.declared.week.Ran.{Ran}
+use Rattle.basin.specs.Step.{Outcome}
+use Rattle.basin.specs.Week.{Ran}
 use Rattle.basin.specs.Reach.{blank_reach}
 use Rattle.basin.specs.State.{content_of}
 use Rattle.basin.specs.File.{file_n, file_sub, file_reach, file_basin, sub_words, reaches_words, load_words, load_length, load_counts, load_call}

@@ -17,7 +17,7 @@ use Rattle.forcing.proofs.list.ReadLaws.{accepted_test, inside_accepted, test_in
 use Rattle.subbasin.specs.declared.record.Parameters.{Parameters}
 use Rattle.subbasin.specs.declared.record.SubBasin.{SubBasin}
 use Rattle.basin.specs.declared.state.Basin.{Basin}
-use Rattle.basin.specs.declared.step.Outcome.{Outcome}
+use Rattle.basin.specs.Step.{Outcome}
 use Rattle.basin.specs.State.{sub_at, content_of, Unchanged}
 use Rattle.basin.specs.File.{file_n, file_sub, file_basin, FileIn}
 use Rattle.basin.specs.Step.{rain_volume, taken, refused_step, step_call}
@@ -25,7 +25,7 @@ use Rattle.basin.specs.Calls.{Call, results, last_basin}
 use Rattle.basin.specs.Week.{up_to_refused}
 use Rattle.basin.specs.Account.{up_to_outside, losses, rain_of_lines, rains, reading_of, rule_after, rule_call, rule_results, Follows}
 use Rattle.basin.proofs.file.LoadedLaws.{file_sub_lem}
-use Rattle.basin.proofs.step.CallLaws.{call_inside, call_outside}
+use Rattle.basin.proofs.step.JudgedLaws.{call_inside, call_outside}
 use Rattle.basin.proofs.step.StepLaws.{reading_weathers, step_balance, after_unchanged}
 use Rattle.basin.proofs.Sound.{SoundBasin, sound_allowed, sound_basin_in, sound_shaped, sound_after}
 

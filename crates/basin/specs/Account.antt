@@ -2,16 +2,15 @@
 use Rattle.std.specs.Prelude.{◌≡◌, ℕ, ◌+◌, ◌*◌, ◌≤◌, ◌<◌, true, false, cond, List, [], ◌∷◌, ◌++◌, map, ◌↔◌, length}
 use Rattle.common.specs.Loops.{sum_of}
 use Rattle.forcing.specs.declared.list.Line.{Line}
-use Rattle.forcing.specs.declared.list.Forcing.{Forcing}
+use Rattle.forcing.specs.List.{Forcing}
 use Rattle.forcing.specs.List.{line_at, weather_of, reading, is_inside}
 use Rattle.subbasin.specs.declared.record.SubBasin.{SubBasin}
 use Rattle.basin.specs.declared.state.Basin.{Basin}
 use Rattle.basin.specs.declared.step.Report.{Report}
-use Rattle.basin.specs.declared.step.Outcome.{Outcome}
-use Rattle.basin.specs.declared.week.Ran.{Ran}
-use Rattle.basin.specs.declared.file.Loaded.{Loaded}
+use Rattle.basin.specs.Step.{Outcome}
+use Rattle.basin.specs.Week.{Ran}
 use Rattle.basin.specs.State.{sub_at, content_of, Unchanged}
-use Rattle.basin.specs.File.{file_n, file_sub, file_basin}
+use Rattle.basin.specs.File.{Loaded, file_n, file_sub, file_basin}
 use Rattle.basin.specs.Step.{taken, refused_step, step_call, Refused}
 use Rattle.basin.specs.Calls.{Call, results, last_basin}
 use Rattle.basin.specs.Week.{fits, week_calls, together, untaken, week_call}

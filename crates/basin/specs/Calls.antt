@@ -2,7 +2,7 @@
 use Rattle.std.specs.Prelude.{ℕ, List, [], ◌∷◌}
 use Rattle.forcing.specs.declared.list.Line.{Line}
 use Rattle.basin.specs.declared.state.Basin.{Basin}
-use Rattle.basin.specs.declared.step.Outcome.{Outcome}
+use Rattle.basin.specs.Step.{Outcome}
 use Rattle.basin.specs.Step.{step_call}
 
 -- "The list holds calls of the step, each with its own lines and count"

@@ -13,12 +13,11 @@ use Rattle.forcing.specs.List.{blank}
 use Rattle.subbasin.specs.declared.record.SubBasin.{SubBasin}
 use Rattle.subbasin.specs.Cases.{words_a, step_cases}
 use Rattle.basin.specs.declared.state.Basin.{Basin}
-use Rattle.basin.specs.declared.file.Loaded.{Loaded}
 use Rattle.basin.specs.declared.step.Report.{Report}
-use Rattle.basin.specs.declared.step.Outcome.{Outcome}
-use Rattle.basin.specs.declared.week.Ran.{Ran}
+use Rattle.basin.specs.Step.{Outcome}
+use Rattle.basin.specs.Week.{Ran}
 use Rattle.basin.specs.State.{sub_at, content_of}
-use Rattle.basin.specs.File.{file_n, file_basin, load_call}
+use Rattle.basin.specs.File.{Loaded, file_n, file_basin, load_call}
 use Rattle.basin.specs.Step.{step_call}
 use Rattle.basin.specs.Calls.{Call, results, last_basin}
 use Rattle.basin.specs.Week.{week_call}

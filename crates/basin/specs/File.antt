@@ -1,13 +1,14 @@
 -- Document 01, "The basin file", and 1 to 4 of "Who sent it".
-use Rattle.std.specs.Prelude.{◌≡◌, ℕ, zero, suc, ◌+◌, ◌*◌, ◌≤◌, ◌<◌, true, cond, List, [], ◌++◌, ltb, eqb, length, get_or}
+use Rattle.std.specs.Prelude.{◌≡◌, ℕ, zero, suc, ◌+◌, ◌*◌, ◌≤◌, ◌<◌, true, cond, List, [], ◌++◌, ltb, eqb, length, get_or, Result, Ok, Err}
 use Rattle.common.specs.Limits.{within, Word, words_in, first_out}
 use Rattle.common.specs.Loops.{table}
 use Rattle.common.specs.Bytes.{word_at}
+use Rattle.common.specs.declared.refusal.Refused.{Refused}
+use Rattle.common.specs.Refusals.{number_of}
 use Rattle.subbasin.specs.declared.record.SubBasin.{SubBasin}
 use Rattle.subbasin.specs.Record.{word_count, words, of_words, words_of, blank_sub, most_start}
 use Rattle.basin.specs.declared.reach.Reach.{Reach}
 use Rattle.basin.specs.declared.state.Basin.{Basin}
-use Rattle.basin.specs.declared.file.Loaded.{Loaded}
 use Rattle.basin.specs.Reach.{reach_word_count, reach_words, reach_words_of, blank_reach}
 use Rattle.basin.specs.State.{most_subs, most_reaches, sub_at, reach_at, empty_basin}
 
@@ -59,12 +60,23 @@ all_words f n m = sub_words f m 0 n ++ reaches_words f n m 0 m
 abbrev pub file_words : List ℕ → List Word
 file_words f = all_words f (file_n f) (file_m f)
 
+-- what a load hands back: number and place are 0 where the file is accepted
+pub record Loaded : Type 0 where
+  pub number : ℕ
+  pub place : ℕ
+  pub basin : Basin
+
 -- "a refused load hands back the empty basin"
 abbrev pub refused_load : ℕ → ℕ → Loaded
 refused_load number place = record { number = number; place = place; basin = empty_basin }
 
 abbrev pub accepted_load : List ℕ → Loaded
 accepted_load f = record { number = 0; place = 0; basin = file_basin f }
+
+-- the number, place and basin that an answer stands for
+abbrev pub as_loaded : Result Basin Refused → Loaded
+as_loaded (Ok b) = record { number = 0; place = 0; basin = b }
+as_loaded (Err r) = refused_load (number_of r.why) r.place
 
 -- "4 the first word outside its range (place its word number)"
 unfoldable pub load_words : List ℕ → Loaded

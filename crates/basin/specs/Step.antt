@@ -1,16 +1,15 @@
 -- Document 01: one step of the basin, its report, and the step call.
-use Rattle.std.specs.Prelude.{◌≡◌, ℕ, ◌+◌, ◌*◌, true, false, cond, List, ◌↔◌, eqb, get_or, replicate}
+use Rattle.std.specs.Prelude.{◌≡◌, ℕ, ◌+◌, ◌*◌, true, false, cond, List, ◌↔◌, eqb, get_or, replicate, Result, Ok, Err}
 use Rattle.common.specs.declared.weather.Weather.{Weather}
+use Rattle.common.specs.declared.refusal.Refused.{Refused as Reason}
+use Rattle.common.specs.Refusals.{number_of}
 use Rattle.common.specs.Weather.{calm}
 use Rattle.common.specs.Loops.{run, filled, sum_of}
 use Rattle.forcing.specs.declared.list.Line.{Line}
-use Rattle.forcing.specs.declared.list.Forcing.{Forcing}
-use Rattle.forcing.specs.List.{reading, is_inside}
-use Rattle.subbasin.specs.declared.step.Stepped.{Stepped}
-use Rattle.subbasin.specs.Step.{stepped}
+use Rattle.forcing.specs.List.{Forcing, reading, is_inside}
+use Rattle.subbasin.specs.Step.{Stepped, stepped}
 use Rattle.basin.specs.declared.state.Basin.{Basin}
 use Rattle.basin.specs.declared.step.Report.{Report}
-use Rattle.basin.specs.declared.step.Outcome.{Outcome}
 use Rattle.basin.specs.State.{sub_at, content_of}
 use Rattle.basin.specs.Limits.{basin_in}
 use Rattle.basin.specs.Network.{send, flows, reaches_after}
@@ -45,6 +44,13 @@ loss_volume b ws = sum_of (λ i. (sub_at b i).fixed.area * ((step_of b ws i).eu 
 unfoldable pub outlet_volume : Basin → List Weather → ℕ
 outlet_volume b ws = get_or (flows b.reaches b.m (sent_by b ws b.n)) 0 0
 
+-- what a step hands back: number and place are 0 where it is accepted
+pub record Outcome : Type 0 where
+  pub number : ℕ
+  pub place : ℕ
+  pub basin : Basin
+  pub report : Report
+
 -- An accepted step.
 unfoldable pub taken : Basin → Forcing → Outcome
 taken b f =
@@ -68,6 +74,11 @@ zeros = record { rain = 0; evapotranspiration = 0; outlet = 0; content = 0; esti
 
 abbrev pub refused_step : Basin → ℕ → ℕ → Outcome
 refused_step b number place = record { number = number; place = place; basin = b; report = zeros }
+
+-- what an answer stands for, with the basin as it then is
+abbrev pub as_outcome : Basin → Result Report Reason → Outcome
+as_outcome b (Ok r) = record { number = 0; place = 0; basin = b; report = r }
+as_outcome b (Err w) = refused_step b (number_of w.why) w.place
 
 -- 5 to 8, and otherwise an accepted step
 unfoldable pub answered : Basin → Forcing → Outcome

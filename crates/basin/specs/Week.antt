@@ -1,15 +1,16 @@
 -- Document 02, No. 2: the week in one call.
-use Rattle.std.specs.Prelude.{◌≡◌, ℕ, zero, suc, ◌+◌, ◌*◌, ◌/◌, ◌%◌, Bool, true, false, cond, ◌&&◌, List, [], ◌∷◌, eqb, leb, length, drop}
+use Rattle.std.specs.Prelude.{◌≡◌, ℕ, zero, suc, ◌+◌, ◌*◌, ◌/◌, ◌%◌, Bool, true, false, cond, ◌&&◌, List, [], ◌∷◌, eqb, leb, length, drop, Option, Some, None}
+use Rattle.common.specs.declared.refusal.Refused.{Refused}
+use Rattle.common.specs.Refusals.{number_of}
 use Rattle.common.specs.Loops.{table}
 use Rattle.forcing.specs.declared.list.Line.{Line}
 use Rattle.forcing.specs.List.{blank, line_at}
 use Rattle.basin.specs.declared.state.Basin.{Basin}
 use Rattle.basin.specs.declared.step.Report.{Report}
-use Rattle.basin.specs.declared.step.Outcome.{Outcome}
-use Rattle.basin.specs.declared.week.Ran.{Ran}
+use Rattle.basin.specs.declared.week.Week.{Week}
 use Rattle.basin.specs.State.{content_of}
 use Rattle.basin.specs.Limits.{basin_in}
-use Rattle.basin.specs.Step.{zeros, step_call}
+use Rattle.basin.specs.Step.{Outcome, zeros, step_call}
 use Rattle.basin.specs.Calls.{Call, results}
 
 -- ---- the list: "one list of forcing lines for many steps, N lines each"
@@ -42,6 +43,21 @@ up_to_refused b (c ∷ cs) =
     c ∷ cond (eqb (step_call b c.lines c.count).number 0) (up_to_refused (step_call b c.lines c.count).basin cs) []
 
 -- ---- the answer: "the basin then reached, the count of accepted steps, the summed rain, evapotranspiration and outlet volumes, and that refusal"
+
+pub record Ran : Type 0 where
+  pub number : ℕ
+  pub place : ℕ
+  pub basin : Basin
+  pub count : ℕ
+  pub report : Report
+
+-- what an answer stands for, with the basin as it then is: number and place are 0 where no step was refused
+abbrev pub ran_of : Basin → ℕ → Report → Option Refused → Ran
+ran_of b count report None = record { number = 0; place = 0; basin = b; count = count; report = report }
+ran_of b count report (Some r) = record { number = number_of r.why; place = r.place; basin = b; count = count; report = report }
+
+abbrev pub as_ran : Basin → Week → Ran
+as_ran b w = ran_of b w.count w.report w.refusal
 
 -- summed reports; the content is the later one's
 abbrev pub joined : Report → Report → Report

@@ -1,6 +1,8 @@
 -- What the private functions require and answer: no part of document 01.
-use Rattle.std.specs.Prelude.{◌≡◌, true, cond, List, [], ℕ, ◌+◌, ◌*◌, ◌^◌, ◌≤◌, ◌<◌, length, get_or}
+use Rattle.std.specs.Prelude.{◌≡◌, Bool, true, false, ◌&&◌, Result, Ok, Err, List, [], ℕ, ◌+◌, ◌*◌, ◌^◌, ◌≤◌, ◌<◌, length, get_or}
 use Rattle.common.specs.declared.weather.Weather.{Weather}
+use Rattle.common.specs.declared.refusal.Refusal.{Refusal}
+use Rattle.common.specs.declared.refusal.Refusal.TheVariants.{BadBasin}
 use Rattle.common.specs.Shares.{one}
 use Rattle.common.specs.Weather.{calm, WeatherIn}
 use Rattle.common.specs.Amounts.{sum}
@@ -15,7 +17,7 @@ use Rattle.basin.specs.declared.step.Subs.{Subs}
 use Rattle.basin.specs.declared.step.Turn.{Turn}
 use Rattle.basin.specs.Reach.{blank_reach, reach_in}
 use Rattle.basin.specs.State.{sub_at}
-use Rattle.basin.specs.Limits.{subs_used}
+use Rattle.basin.specs.Limits.{subs_used, subs_blank, reaches_used, reaches_blank}
 use Rattle.basin.specs.Network.{g_of, flows, reaches_after}
 use Rattle.basin.specs.Step.{step_of, sent_by, rain_volume, loss_volume}
 
@@ -30,8 +32,9 @@ pub record Weathers (ws : List Weather) : Type 0 where
 abbrev pub most_sent : ℕ
 most_sent = most_stored + 2 ^ 50
 
-pub record Turned (m : ℕ) (s : SubBasin) (w : Weather) (t : Turn) : Type 0 where
-  pub after_is : t.after ≡ (stepped s w).after
+pub record Turned (m : ℕ) (s : SubBasin) (w : Weather) (after : SubBasin) (t : Turn) : Type 0 where
+  pub allowed : record_in m s ≡ true
+  pub after_is : after ≡ (stepped s w).after
   pub to_is : t.to ≡ s.fixed.reach
   pub q_is : t.q ≡ (stepped s w).q
   pub rain_is : t.rain ≡ s.fixed.area * w.rain
@@ -44,9 +47,9 @@ pub record Turned (m : ℕ) (s : SubBasin) (w : Weather) (t : Turn) : Type 0 whe
   pub held_most : t.held ≤ 2 ^ 57
 
 -- 9 for a record that it doesn't allow
-pub record TurnOf (m : ℕ) (s : SubBasin) (w : Weather) (t : Turn) : Type 0 where
-  pub judged : t.number ≡ cond (record_in m s) 0 9
-  pub turned : t.number ≡ 0 → Turned m s w t
+abbrev pub TurnOf : ℕ → SubBasin → Weather → SubBasin → Result Turn Refusal → Type 0
+TurnOf m s w after (Ok t) = Turned m s w after t
+TurnOf m s w after (Err why) = (record_in m s ≡ false) × (why ≡ BadBasin)
 
 -- ---- the sub-basins' turns
 
@@ -54,9 +57,10 @@ pub record TurnOf (m : ℕ) (s : SubBasin) (w : Weather) (t : Turn) : Type 0 whe
 abbrev pub subs_only : ℕ → ℕ → List SubBasin → Basin
 subs_only n m subs = record { n = n; m = m; subs = subs; reaches = [] }
 
-pub record SubsDone (b : Basin) (ws : List Weather) (r : Subs) : Type 0 where
+pub record SubsDone (b : Basin) (ws : List Weather) (after : List SubBasin) (r : Subs) : Type 0 where
+  pub allowed : subs_used b.m b.n b.subs ≡ true
   pub long : length b.subs ≡ 32
-  pub subs_are : r.subs ≡ filled (λ i. (step_of b ws i).after) b.n b.subs
+  pub subs_are : after ≡ filled (λ i. (step_of b ws i).after) b.n b.subs
   pub sent_is : r.sent ≡ sent_by b ws b.n
   pub rain_is : r.rain ≡ rain_volume b ws
   pub loss_is : r.loss ≡ loss_volume b ws
@@ -64,9 +68,9 @@ pub record SubsDone (b : Basin) (ws : List Weather) (r : Subs) : Type 0 where
   pub sent_most : sum r.sent ≤ 32 * most_sent
   pub held_most : r.held ≤ 2 ^ 62
 
-pub record SubsOf (b : Basin) (ws : List Weather) (r : Subs) : Type 0 where
-  pub judged : r.number ≡ cond (subs_used b.m b.n b.subs) 0 9
-  pub done : r.number ≡ 0 → SubsDone b ws r
+abbrev pub SubsOf : Basin → List Weather → List SubBasin → Result Subs Refusal → Type 0
+SubsOf b ws after (Ok r) = SubsDone b ws after r
+SubsOf b ws after (Err why) = (subs_used b.m b.n b.subs ≡ false) × (why ≡ BadBasin)
 
 -- ---- the reaches' turns
 
@@ -90,6 +94,10 @@ pub record Flowed (m : ℕ) (rs : List Reach) (sent : List ℕ) (after : List Re
   pub held_most : held ≤ 2 ^ 62
 
 -- ---- the basin
+
+-- 9 but for the counts and the sub-basins in use
+unfoldable pub records_in : Basin → Bool
+records_in b = subs_blank b.n b.subs && reaches_used b.m b.reaches && reaches_blank b.m b.reaches
 
 -- the lengths that a basin's type gives
 pub record Shaped (b : Basin) : Type 0 where

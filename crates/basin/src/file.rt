@@ -1,10 +1,10 @@
 // The basin file: document 01, "The basin file", and refusals 1 to 4 of "Who sent it".
-ghost use Rattle.std.specs.Prelude.{◌≡◌, ◌↔◌, ◌≤◌, ◌<◌};
+ghost use Rattle.std.specs.Prelude.{◌≡◌, ◌↔◌, ◌≤◌, ◌<◌, IsOk, IfOk};
 ghost use Rattle.common.specs.Limits.{first_out};
 ghost use Rattle.common.specs.Loops.{table};
 ghost use Rattle.subbasin.specs.Record.{blank_sub};
 ghost use Rattle.basin.specs.Reach.{blank_reach};
-ghost use Rattle.basin.specs.File.{file_sub, file_reach, sub_words, reaches_words, all_words, refused_load, load_call};
+ghost use Rattle.basin.specs.File.{file_sub, file_reach, sub_words, reaches_words, all_words, as_loaded, load_call};
 ghost use Rattle.basin.specs.File.{FileIn, Holds};
 ghost use Rattle.basin.specs.Account.{Demand3};
 
@@ -12,6 +12,7 @@ use crate::reach;
 use crate::reach::Reach;
 use crate::state::{Basin, MOST_REACHES, MOST_SUBS};
 use common::bytes::word;
+use common::refusal::{Refusal, Refused};
 use subbasin::record;
 use subbasin::record::{MOST_START, SubBasin};
 
@@ -23,77 +24,46 @@ const REACH_WORDS: u64 = reach::WORDS;
 // No file has fewer bytes.
 const LEAST_BYTES: u64 = 8;
 
-// What a load hands back: number and place are 0 where the file is accepted.
-#[derive(Clone, Copy)]
-pub struct Loaded {
-    pub number: u64,
-    pub place: u64,
-    pub basin: Basin,
-}
-
 // The basin of a file's bytes. A load checks 1, 2, 3, 4 in this order, accepts every file inside the limits, and then holds its words.
 // From an accepted basin every list of steps keeps the water account: demand 3.
-pub fn load(bytes: &[u8]) -> Loaded
-    ensures answers { result ≡ load_call bytes.now }
-    ensures accepts { (result.number ≡ 0) ↔ FileIn bytes.now }
-    ensures holds { result.number ≡ 0 → Holds bytes.now result.basin }
-    ensures accounts { Demand3 bytes.now result }
+pub fn load(bytes: &[u8]) -> Result<Basin, Refused>
+    ensures answers { as_loaded result ≡ load_call bytes.now }
+    ensures accepts { IsOk result ↔ FileIn bytes.now }
+    ensures holds { IfOk result (Holds bytes.now) }
+    ensures accounts { Demand3 bytes.now (as_loaded result) }
 {
     let size = bytes.len() as u64;
     if size < LEAST_BYTES {
-        return refuse(1, 0);
+        return Err(Refusal::FewBytes.into());
     }
     let n = word(bytes, 0);
-    if n < 1 {
-        return refuse(2, 0);
-    }
-    if MOST_SUBS < n {
-        return refuse(2, 0);
+    if n < 1 || MOST_SUBS < n {
+        return Err(Refusal::Counts.into());
     }
     let m = word(bytes, 1);
     if MOST_REACHES < m {
-        return refuse(2, 1);
+        return Err(Refused {
+            why: Refusal::Counts,
+            place: 1,
+        });
     }
     let words = SUB_WORDS * n + REACH_WORDS * m;
     if size != 4 * (2 + words) {
-        return refuse(3, 0);
+        return Err(Refusal::Length.into());
     }
     let out = first_out(bytes, n, m);
     if out != words {
-        return refuse(4, 2 + out);
+        return Err(Refused {
+            why: Refusal::Word,
+            place: 2 + out,
+        });
     }
-    let subs = subs_of(bytes, n);
-    let reaches = reaches_of(bytes, n, m);
-    let basin = Basin {
+    Ok(Basin {
         n,
         m,
-        subs,
-        reaches,
-    };
-    Loaded {
-        number: 0,
-        place: 0,
-        basin,
-    }
-}
-
-// A refused load hands back the empty basin.
-fn refuse(number: u64, place: u64) -> Loaded
-    ensures { result ≡ refused_load number place }
-{
-    let sub = record::of_words([0u64; record::WORDS]);
-    let reach = blank_reach();
-    let basin = Basin {
-        n: 0,
-        m: 0,
-        subs: [sub; 32],
-        reaches: [reach; 31],
-    };
-    Loaded {
-        number,
-        place,
-        basin,
-    }
+        subs: subs_of(bytes, n),
+        reaches: reaches_of(bytes, n, m),
+    })
 }
 
 // The number of the first word outside its range, counted from 0 after N and M, and how many words there are where none is.
@@ -116,9 +86,8 @@ fn first_out_sub(bytes: &[u8], n: u64, m: u64) -> u64
     let mut i: u64 = 0;
     while i < n {
         let s = sub_at(bytes, i);
-        let k = record::first_outside(s, m, MOST_START);
-        if k != SUB_WORDS {
-            return SUB_WORDS * i + k;
+        if let Some(k) = s.first_outside(m, MOST_START) {
+            return SUB_WORDS * i + k as u64;
         }
         i += 1;
     }
@@ -133,8 +102,7 @@ fn first_out_reach(bytes: &[u8], n: u64, m: u64) -> u64
     let mut j: u64 = 0;
     while j < m {
         let r = reach_at(bytes, n, j);
-        let k = reach::first_outside(r, j + 1, m);
-        if k != REACH_WORDS {
+        if let Some(k) = r.first_outside(j + 1, m) {
             return REACH_WORDS * j + k;
         }
         j += 1;
@@ -147,7 +115,7 @@ fn subs_of(bytes: &[u8], n: u64) -> [SubBasin; 32]
     requires { n ≤ 32 }
     ensures { result ≡ table (λ i. file_sub bytes.now i) blank_sub n 32 }
 {
-    let blank = record::of_words([0u64; record::WORDS]);
+    let blank = SubBasin::from([0; record::WORDS]);
     let mut subs = [blank; 32];
     let mut i: u64 = 0;
     while i < n {
@@ -187,7 +155,7 @@ fn sub_at(bytes: &[u8], i: u64) -> SubBasin
         v[k as usize] = x;
         k += 1;
     }
-    record::of_words(v)
+    v.into()
 }
 
 // Reach j, counted from 0, after n sub-basins. It starts empty.

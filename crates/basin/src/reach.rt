@@ -1,13 +1,13 @@
 // A reach and its limits: document 01, "The basin file" and 9 of "Who sent it".
-ghost use Rattle.std.specs.Prelude.{◌≡◌};
+ghost use Rattle.std.specs.Prelude.{◌≡◌, ◌<◌, IfSome};
 ghost use Rattle.common.specs.Limits.{first_out};
-ghost use Rattle.basin.specs.Reach.{reach_words, reach_in, is_blank_reach};
+ghost use Rattle.basin.specs.Reach.{reach_word_count, reach_words, number_of, reach_in, is_blank_reach};
 
 use common::shares::ONE;
 use curve::store::MOST_CONTENT;
 
 // A reach: the shares c0 and c1 in parts of 65,536, the reach it flows to (0: the outlet) and its content in m³.
-#[derive(Clone, Copy)]
+#[derive(Clone, Copy, PartialEq, Eq, Default)]
 pub struct Reach {
     pub c0: u64,
     pub c1: u64,
@@ -20,63 +20,42 @@ pub const WORDS: u64 = 3;
 
 pub const NAMES: [u8; 15] = *b"c0   c1   next ";
 
-// The number of a reach's first word outside its range, and WORDS where none is; j is the reach's own number, from 1.
-pub fn first_outside(r: Reach, j: u64, m: u64) -> u64
-    ensures { result ≡ first_out (reach_words m j r) }
-{
-    if ONE < r.c0 {
-        return 0;
+impl Reach {
+    // The number of its first word outside its range, if there is one; j is the reach's own number, from 1.
+    pub fn first_outside(&self, j: u64, m: u64) -> Option<u64>
+        ensures answers { number_of result ≡ first_out (reach_words m j self.now) }
+        ensures one_of_its_words { IfSome result (λ k. k < reach_word_count) }
+    {
+        if ONE < self.c0 {
+            return Some(0);
+        }
+        if ONE < self.c1 {
+            return Some(1);
+        }
+        let g = self.c0 + self.c1;
+        if g < 1 || ONE < g {
+            return Some(1);
+        }
+        if self.next == 0 {
+            return None;
+        }
+        if self.next <= j || m < self.next {
+            return Some(2);
+        }
+        None
     }
-    if ONE < r.c1 {
-        return 1;
-    }
-    let g = r.c0 + r.c1;
-    if g < 1 {
-        return 1;
-    }
-    if ONE < g {
-        return 1;
-    }
-    if r.next == 0 {
-        return WORDS;
-    }
-    if r.next <= j {
-        return 2;
-    }
-    if m < r.next {
-        return 2;
-    }
-    WORDS
-}
 
-// Whether 9 allows reach j of m.
-pub fn allowed(r: Reach, j: u64, m: u64) -> bool
-    ensures { result ≡ reach_in m j r }
-{
-    if first_outside(r, j, m) != WORDS {
-        return false;
+    // Whether 9 allows it as reach j of m.
+    pub fn allowed(&self, j: u64, m: u64) -> bool
+        ensures { result ≡ reach_in m j self.now }
+    {
+        self.first_outside(j, m).is_none() && self.content <= MOST_CONTENT
     }
-    if MOST_CONTENT < r.content {
-        return false;
-    }
-    true
-}
 
-// Whether the reach is all zeros.
-pub fn is_blank(r: Reach) -> bool
-    ensures { result ≡ is_blank_reach r }
-{
-    if 0 < r.c0 {
-        return false;
+    // Whether it is all zeros.
+    pub fn is_blank(&self) -> bool
+        ensures { result ≡ is_blank_reach self.now }
+    {
+        *self == Reach::default()
     }
-    if 0 < r.c1 {
-        return false;
-    }
-    if 0 < r.next {
-        return false;
-    }
-    if 0 < r.content {
-        return false;
-    }
-    true
 }

@@ -20,14 +20,12 @@ pub const MOST_SUBS: u64 = 32;
 
 pub const MOST_REACHES: u64 = 31;
 
-// Whether 9 allows the basin.
-pub fn allowed(b: Basin) -> bool
-    ensures answers { result ≡ basin_in b }
-    ensures judges { result ≡ true → Unused b }
-{
-    if limits::others_allowed(b) {
-        let subs = b.subs;
-        return limits::subs_used(subs, b.n, b.m);
+impl Basin {
+    // Whether 9 allows the basin.
+    pub fn allowed(&self) -> bool
+        ensures answers { result ≡ basin_in self.now }
+        ensures judges { result ≡ true → Unused self.now }
+    {
+        limits::others_allowed(self) && limits::subs_used(&self.subs, self.n, self.m)
     }
-    false
 }

@@ -1,19 +1,20 @@
 // One step of the basin: document 01, "One sub-basin, one step", "The store law" and "The forcing list".
 ghost use Rattle.std.specs.Prelude.{◌≡◌, true, cond, ◌≤◌};
 ghost use Rattle.common.specs.Weather.{WeatherIn};
+ghost use Rattle.forcing.specs.List.{as_forcing};
 ghost use Rattle.basin.specs.Limits.{others_in, basin_in};
-ghost use Rattle.basin.specs.Step.{taken, refused_step, step_call, Judged};
+ghost use Rattle.basin.specs.Step.{taken, as_outcome, refused_step, step_call, Judged};
 ghost use Rattle.basin.specs.Workers.{Weathers, TurnOf, subs_only, SubsOf};
 
 use crate::state::Basin;
 use crate::{limits, network};
+use common::refusal::{Refusal, Refused};
 use common::weather::Weather;
 use curve::capacity;
 use curve::capacity::Roots;
 use forcing::list;
-use forcing::list::{Forcing, Line};
+use forcing::list::{Line, Readings};
 use subbasin::record::SubBasin;
-use subbasin::{content, step};
 
 // What a step reports: rain, evapotranspiration, outlet volume and content in m³, and how many lines were estimated.
 #[derive(Clone, Copy)]
@@ -25,7 +26,7 @@ pub struct Report {
     pub estimated: u64,
 }
 
-// The report of a step that is refused.
+// The report of no step.
 pub const ZEROS: Report = Report {
     rain: 0,
     evapotranspiration: 0,
@@ -34,162 +35,110 @@ pub const ZEROS: Report = Report {
     estimated: 0,
 };
 
-// What a step hands back: number and place are 0 where it is accepted.
-#[derive(Clone, Copy)]
-pub struct Outcome {
-    pub number: u64,
-    pub place: u64,
-    pub basin: Basin,
-    pub report: Report,
-}
+impl Basin {
+    // One step under a forcing list of count lines. 9 is judged before 5, and 5 before the lines. A step that is refused leaves the basin
+    // as it was.
+    pub fn step(&mut self, lines: [Line; 32], count: u64) -> Result<Report, Refused>
+        ensures answers { as_outcome self.new result ≡ step_call self.old lines count }
+        ensures judges { Judged self.old lines count (as_outcome self.new result) }
+    {
+        let roots = capacity::printed_roots();
+        self.step_with(&roots, lines, count)
+    }
 
-// One step under a forcing list of count lines. 9 is judged before 5, and 5 before the lines.
-pub fn step(b: Basin, lines: [Line; 32], count: u64) -> Outcome
-    ensures answers { result ≡ step_call b lines count }
-    ensures judges { Judged b lines count result }
-{
-    let roots = capacity::printed_roots();
-    step_with(&roots, b, lines, count)
-}
-
-// The same with a table of roots that is lent (curve::capacity), for whoever takes many steps.
-pub fn step_with(roots: &Roots, b: Basin, lines: [Line; 32], count: u64) -> Outcome
-    ensures answers { result ≡ step_call b lines count }
-    ensures judges { Judged b lines count result }
-{
-    let f = list::read(lines, count, b.n);
-    if limits::others_allowed(b) {
-        if f.number == 0 {
-            return take(roots, b, f);
+    // The same with a table of roots that is lent (curve::capacity), for whoever takes many steps.
+    pub fn step_with(
+        &mut self,
+        roots: &Roots,
+        lines: [Line; 32],
+        count: u64,
+    ) -> Result<Report, Refused>
+        ensures answers { as_outcome self.new result ≡ step_call self.old lines count }
+        ensures judges { Judged self.old lines count (as_outcome self.new result) }
+    {
+        if !limits::others_allowed(self) {
+            return Err(Refusal::BadBasin.into());
         }
-        return refuse_forcing(b, f.number, f.place);
+        match list::read(lines, count, self.n) {
+            Ok(readings) => self.take(roots, &readings),
+            Err(by_lines) => Err(self.refusal(by_lines)),
+        }
     }
-    refuse(b, 9, 0)
-}
 
-// A step whose forcing is refused with number and place: with 9 where that doesn't allow a sub-basin in use.
-fn refuse_forcing(b: Basin, number: u64, place: u64) -> Outcome
-    requires { others_in b ≡ true }
-    ensures { result ≡ cond (basin_in b) (refused_step b number place) (refused_step b 9 0) }
-{
-    let subs = b.subs;
-    if limits::subs_used(subs, b.n, b.m) {
-        return refuse(b, number, place);
+    // Why a step is refused whose lines are: by 9 where that doesn't allow a sub-basin in use.
+    fn refusal(&self, by_lines: Refused) -> Refused
+        requires { others_in self.now ≡ true }
+        ensures { as_outcome self.now (Err result) ≡ cond (basin_in self.now) (as_outcome self.now (Err by_lines)) (refused_step self.now 9 0) }
+    {
+        if limits::subs_used(&self.subs, self.n, self.m) {
+            return by_lines;
+        }
+        Refusal::BadBasin.into()
     }
-    refuse(b, 9, 0)
-}
 
-// A refused step reports zeros and hands back the basin that it got.
-fn refuse(b: Basin, number: u64, place: u64) -> Outcome
-    ensures { result ≡ refused_step b number place }
-{
-    Outcome {
-        number,
-        place,
-        basin: b,
-        report: ZEROS,
-    }
-}
-
-// A step whose forcing is accepted, on a basin that 9 allows but for the sub-basins in use: their own steps judge their records, and
-// a refusal there is the basin's 9.
-fn take(roots: &Roots, b: Basin, f: Forcing) -> Outcome
-    requires { (others_in b ≡ true) × Weathers f.weather }
-    ensures { result ≡ cond (basin_in b) (taken b f) (refused_step b 9 0) }
-{
-    let before = b.subs;
-    let weather = f.weather;
-    let stepped = step_subs(roots, before, weather, b.n, b.m);
-    if stepped.number != 0 {
-        return refuse(b, 9, 0);
-    }
-    let reaches_before = b.reaches;
-    let sent = stepped.sent;
-    let routed = network::route(reaches_before, sent, b.m);
-    let subs = stepped.subs;
-    let reaches = routed.reaches;
-    Outcome {
-        number: 0,
-        place: 0,
-        basin: Basin {
-            n: b.n,
-            m: b.m,
-            subs,
-            reaches,
-        },
-        report: Report {
+    // A step whose lines are accepted, on a basin that 9 allows but for the sub-basins in use: their own steps judge their records, and
+    // a refusal there is the basin's 9.
+    fn take(&mut self, roots: &Roots, readings: &Readings) -> Result<Report, Refused>
+        requires { (others_in self.old ≡ true) × Weathers readings.now.weather }
+        ensures { as_outcome self.new result ≡ cond (basin_in self.old) (taken self.old (as_forcing (Ok readings.now))) (refused_step self.old 9 0) }
+    {
+        let mut subs = self.subs;
+        let stepped = step_subs(roots, &mut subs, &readings.weather, self.n, self.m)?;
+        let routed = network::route(&mut self.reaches, stepped.sent, self.m);
+        self.subs = subs;
+        Ok(Report {
             rain: stepped.rain,
             evapotranspiration: stepped.loss,
             outlet: routed.outlet,
             content: stepped.held + routed.held,
-            estimated: f.estimated,
-        },
+            estimated: readings.estimated,
+        })
     }
 }
 
-// The sub-basins after their steps, what they sent to the outlet and the reaches, rain and loss, and what they then hold; number is
-// 9 where one is refused.
+// What the sub-basins sent to the outlet and the reaches, rain and loss, and what they then hold.
 #[derive(Drop)]
 struct Subs {
-    number: u64,
-    subs: [SubBasin; 32],
     sent: [u64; 32],
     rain: u64,
     loss: u64,
     held: u64,
 }
 
-// The steps of sub-basins 1..N.
+// The steps of sub-basins 1..N, up to the first that is refused.
 #[tactic(auto, using(crate::proofs::step::SubsLaws::stepping_fits))]
-fn step_subs(roots: &Roots, before: [SubBasin; 32], weather: [Weather; 32], n: u64, m: u64) -> Subs
-    requires { (n ≤ 32) × (m ≤ 31) × Weathers weather }
-    ensures { SubsOf (subs_only n m before) weather result }
+fn step_subs(
+    roots: &Roots,
+    subs: &mut [SubBasin; 32],
+    weather: &[Weather; 32],
+    n: u64,
+    m: u64,
+) -> Result<Subs, Refusal>
+    requires { (n ≤ 32) × (m ≤ 31) × Weathers weather.now }
+    ensures { SubsOf (subs_only n m subs.old) weather.now subs.new result }
 {
-    let mut subs = before;
-    let mut sent = [0u64; 32];
+    let mut sent = [0; 32];
     let mut rain = 0;
     let mut loss = 0;
     let mut held = 0;
-    let mut i: u64 = 0;
-    while i < n {
-        let at = i as usize;
-        let s = subs[at];
-        let w = weather[at];
-        let t = take_turn(roots, s, w, m);
-        if t.number != 0 {
-            return Subs {
-                number: t.number,
-                subs,
-                sent,
-                rain,
-                loss,
-                held,
-            };
-        }
-        let next = t.after;
-        subs[at] = next;
-        let to = t.to as usize;
-        sent[to] = sent[to] + t.q;
-        rain = rain + t.rain;
-        loss = loss + t.loss;
-        held = held + t.held;
-        i += 1;
+    for i in 0..n as usize {
+        let turn = take_turn(roots, &mut subs[i], weather[i], m)?;
+        sent[turn.to as usize] += turn.q;
+        rain += turn.rain;
+        loss += turn.loss;
+        held += turn.held;
     }
-    Subs {
-        number: 0,
-        subs,
+    Ok(Subs {
         sent,
         rain,
         loss,
         held,
-    }
+    })
 }
 
-// One sub-basin after its step, the volume q that it sends and where to, its rain and loss, and what it then holds, all in m³.
+// The volume q that a sub-basin sends and where to, its rain and loss, and what it then holds, all in m³.
 #[derive(Drop)]
 struct Turn {
-    number: u64,
-    after: SubBasin,
     to: u64,
     q: u64,
     rain: u64,
@@ -197,40 +146,22 @@ struct Turn {
     held: u64,
 }
 
-fn take_turn(roots: &Roots, s: SubBasin, w: Weather, m: u64) -> Turn
+fn take_turn(roots: &Roots, s: &mut SubBasin, w: Weather, m: u64) -> Result<Turn, Refusal>
     requires { (m ≤ 31) × WeatherIn w }
-    ensures { TurnOf m s w result }
+    ensures { TurnOf m s.old w s.new result }
 {
     let p = s.fixed;
     if m < p.reach {
-        return refused(s);
+        return Err(Refusal::BadBasin);
     }
-    let st = step::step_with(roots, s, w);
-    if st.number != 0 {
-        return refused(s);
-    }
-    let after = st.after;
-    Turn {
-        number: 0,
-        after,
+    let Ok(flows) = s.step_with(roots, w) else {
+        return Err(Refusal::BadBasin);
+    };
+    Ok(Turn {
         to: p.reach,
-        q: st.q,
+        q: flows.q,
         rain: p.area * w.rain,
-        loss: p.area * (st.eu + st.el + st.ed),
-        held: content::water_of(after),
-    }
-}
-
-fn refused(s: SubBasin) -> Turn
-    ensures { result.number ≡ 9 }
-{
-    Turn {
-        number: 9,
-        after: s,
-        to: 0,
-        q: 0,
-        rain: 0,
-        loss: 0,
-        held: 0,
-    }
+        loss: p.area * (flows.eu + flows.el + flows.ed),
+        held: s.water(),
+    })
 }

@@ -11,6 +11,9 @@ use lib.Dec.{ltb, eqb}
 use lib.ListN.{length, get_or, take, replicate}
 use lib.Seq.{get_or-take, take_all, length-take-le}
 use borrow.Author.Tests.{le-ltb, eq-eqb, ne_eqb, eqb-true}
+use Rattle.std.proofs.Common.{Result, Ok, Err, IsOk, IfOk}
+use Rattle.common.specs.declared.refusal.Refused.{Refused}
+use Rattle.common.proofs.Refusals.{number_some}
 use Rattle.common.specs.Limits.{within, first_out}
 use Rattle.common.specs.Loops.{filled, table}
 use Rattle.common.specs.Bytes.{word_at}
@@ -19,11 +22,10 @@ use Rattle.common.proofs.Loops.{table_length, table_in, table_past}
 use Rattle.subbasin.specs.Record.{word_count, words, words_of, blank_sub, most_start}
 use Rattle.subbasin.proofs.record.RecordLaws.{words_read_back}
 use Rattle.basin.specs.declared.state.Basin.{Basin}
-use Rattle.basin.specs.declared.file.Loaded.{Loaded}
 use Rattle.basin.specs.Reach.{reach_word_count, reach_words_of, blank_reach}
 use Rattle.basin.specs.State.{most_subs, most_reaches, sub_at, reach_at}
-use Rattle.basin.specs.File.{file_n, file_m, sub_start, reach_start, file_sub, file_reach, file_basin, sub_words, reaches_words, file_words}
-use Rattle.basin.specs.File.{least_bytes, refused_load, accepted_load, load_words, load_length, load_counts, load_call, FileIn, Holds}
+use Rattle.basin.specs.File.{Loaded, file_n, file_m, sub_start, reach_start, file_sub, file_reach, file_basin, sub_words, reaches_words, file_words}
+use Rattle.basin.specs.File.{least_bytes, refused_load, accepted_load, as_loaded, load_words, load_length, load_counts, load_call, FileIn, Holds}
 use Rattle.basin.proofs.reach.ReachLaws.{ReachWords, reach_words_lem}
 use Rattle.basin.proofs.file.FileLaws.{in_subs, in_reaches}
 
@@ -178,6 +180,17 @@ module _ (f : List ℕ) {loaded : Loaded} (e : loaded ≡ load_call f) where
               ∙ ap (λ (v : List ℕ). get_or v k 0) (reach_words_held f j l (load_limits f (accepted z)).m_most)
               ∙ table_in (λ k. word_at f (reach_start (file_n f) j + k)) 0 reach_word_count reach_word_count k b b;
         }
+
+-- ---- the code's answer, by its equation
+
+module _ (f : List ℕ) where
+  pub accepts : (r : Result Basin Refused) → as_loaded r ≡ load_call f → IsOk r ↔ FileIn f
+  accepts (Ok b) e = (λ _. (accepted_within f e).0 refl, λ _. refl)
+  accepts (Err w) e = (λ n. cc, λ i. absurd (omega (arith, (accepted_within f e).1 i, number_some w.why)))
+
+  pub holds : (r : Result Basin Refused) → as_loaded r ≡ load_call f → IfOk r (Holds f)
+  holds (Ok b) e = words_loaded f e refl
+  holds (Err w) e = tt
 
 -- of the basin of an accepted load: "N 1..32"
 pub loaded_n : {f : List ℕ} {b : Basin} → FileIn f → Holds f b → (1 ≤ b.n) × (b.n ≤ most_subs)

@@ -1,21 +1,28 @@
 -- What 9's limits of a basin say, both ways, and their tests one after the other. Assumes nothing.
-use mathlib.Core.Path.{◌≡◌, refl, sym, ◌∙◌}
-use mathlib.Core.Bool.{Bool, true, false, ◌&&◌, and-false}
-use mathlib.Core.List.{List, [], ◌∷◌}
+use mathlib.Core.Path.{◌≡◌, refl, sym, ap, ◌∙◌}
+use mathlib.Core.Bool.{Bool, true, false, ◌&&◌}
+use mathlib.Core.List.{List}
 use Prim.Native.Nat.{ℕ, zero, suc, ◌+◌, ◌-◌, ◌≤◌, ◌<◌}
 use native.Mathlib.Omega.{arith}
-use lib.ListN.{get_or}
-use Rattle.common.specs.Limits.{within, words_in}
-use Rattle.common.specs.Amounts.{all_up_to}
+use lib.Dec.{leb}
+use borrow.Author.Tests.{le-leb}
+use native.Mathlib.Numerals.{add-one}
+use lib.ListN.{length, get_or, take, drop}
+use Rattle.std.specs.List.{list_all}
+use Rattle.std.proofs.lemmas.List.{get_or-take, get_or-drop}
+use Rattle.std.proofs.lemmas.List.Folds.{list_all_more}
+use Rattle.common.specs.Limits.{within}
+use Rattle.common.specs.Loops.{every}
 use Rattle.common.proofs.Limits.{both, parts, within_in, within_limits, within_not}
 use Rattle.common.proofs.Loops.{every_in, every_at}
-use Rattle.subbasin.specs.declared.record.SubBasin.{SubBasin}
-use Rattle.subbasin.specs.Record.{record_in, is_blank, blank_sub}
+use Rattle.subbasin.specs.Record.{record_in, is_blank}
 use Rattle.subbasin.proofs.record.RecordLaws.{RecordIn, record_limits, record_in_lem}
+use Rattle.basin.specs.declared.reach.Reach.{Reach}
 use Rattle.basin.specs.declared.state.Basin.{Basin}
-use Rattle.basin.specs.Reach.{reach_in, is_blank_reach}
+use Rattle.basin.specs.Reach.{reach_in, blank_reach, is_blank_reach}
 use Rattle.basin.specs.State.{most_subs, most_reaches, sub_at, reach_at}
 use Rattle.basin.specs.Limits.{counts_in, subs_used, subs_blank, reaches_used, reaches_blank, others_in, basin_in}
+use Rattle.basin.specs.Workers.{records_in}
 use Rattle.basin.proofs.reach.ReachLaws.{ReachIn, reach_limits, reach_in_lem}
 
 -- ---- the counts
@@ -41,27 +48,39 @@ module _ (n m : ℕ) where
   unfolding counts_in
   n_outside h = sym (rw (within_not 1 n most_subs h))
 
-  pub m_outside : most_reaches < m → false ≡ counts_in n m
+  -- and inside, M decides
+  pub n_inside : 1 ≤ n → n ≤ most_subs → leb m most_reaches ≡ counts_in n m
   unfolding counts_in
-  m_outside h = sym (rw (within_not 0 m most_reaches (λ _ l. omega arith), and-false))
+  n_inside l h = sym (rw (within_in 1 n most_subs l h, le-leb 0 m (omega arith)))
+
+-- ---- a test of the first n records of a list, and of those from the n-th on
+
+module _ {A : Type 0} (p : A → Bool) (d : A) (l : List A) where
+  pub all_taken : (n : ℕ) → n ≤ length l → list_all p (take n l) ≡ every (λ k. p (get_or l k d)) n
+  unfolding every
+  all_taken zero h = refl
+  all_taken (suc n) h = rw (← (add-one n)) (list_all_more p l n d (omega arith) ∙ ap (λ b. b && p (get_or l n d)) (all_taken n (omega arith)))
+
+  pub all_left : (n j : ℕ) → j ≤ length (drop n l) → list_all p (take j (drop n l)) ≡ every (λ k. p (get_or l (n + k) d)) j
+  unfolding every
+  all_left n zero h = refl
+  all_left n (suc j) h =
+      rw (← (add-one j))
+      (list_all_more p (drop n l) j d (omega arith) ∙ rw (get_or-drop n l j d) (ap (λ b. b && p (get_or l (n + j) d)) (all_left n j (omega arith))))
+
+-- ---- a test, and another where it holds
+
+pub and_then : {a x y v : Bool} → a ≡ x → a ≡ true → v ≡ y → v ≡ x && y
+and_then is yea e = e ∙ rw (sym is ∙ yea)
+
+pub and_stop : {a x v : Bool} (y : Bool) → a ≡ x → a ≡ false → v ≡ a → v ≡ x && y
+and_stop y is nay e = e ∙ nay ∙ rw (sym is ∙ nay)
 
 -- ---- the records
 
--- the code's reads past the end of an array give another record than the definitions' do, which no test tells apart
-abbrev pub no_sub : SubBasin
-no_sub = record { fixed = blank_sub.fixed; contents = blank_sub.contents; line = record { lag = 0; waiting = [] }; channel = 0 }
-
-pub used_read : (m : ℕ) (l : List SubBasin) (i : ℕ) → record_in m (get_or l i no_sub) ≡ record_in m (get_or l i blank_sub)
-unfolding record_in words_in
-used_read m [] i = refl
-used_read m (s ∷ l) zero = refl
-used_read m (s ∷ l) (suc i) = used_read m l i
-
-pub blank_read : (l : List SubBasin) (i : ℕ) → is_blank (get_or l i no_sub) ≡ is_blank (get_or l i blank_sub)
-unfolding is_blank all_up_to
-blank_read [] i = refl
-blank_read (s ∷ l) zero = refl
-blank_read (s ∷ l) (suc i) = blank_read l i
+-- reach j of the first m, as the code reads it
+pub used_reach : (m : ℕ) (l : List Reach) (j : ℕ) → j < m → reach_in m (suc j) (get_or l j blank_reach) ≡ reach_in m (j + 1) (get_or (take m l) j blank_reach)
+used_reach m l j h = rw (add-one j, get_or-take m l j blank_reach h)
 
 -- all is inside its limits but the sub-basins in use
 pub record OthersIn (b : Basin) : Type 0 where
@@ -155,22 +174,12 @@ module _ (b : Basin) where
       }))
       (every_in (λ i. record_in b.m (sub_at b i)) b.n (λ i l. record_in_lem b.m (sub_at b i) (h.used_subs i l)))
 
-  -- the tests of the others, one after the other
+  -- the tests of the others: the counts, and then the records
   module _ {c : Bool} (is_c : c ≡ counts_in b.n b.m) where
-    pub counts_fail : c ≡ false → false ≡ others_in b
+    pub counts_fail : c ≡ false → c ≡ others_in b
     unfolding others_in
-    counts_fail n = sym (rw (sym is_c ∙ n))
+    counts_fail n = n ∙ sym (rw (sym is_c ∙ n))
 
-    module _ (c-in : c ≡ true) {s : Bool} (is-s : s ≡ subs_blank b.n b.subs) where
-      pub subs_fail : s ≡ false → false ≡ others_in b
-      unfolding others_in
-      subs_fail n = sym (rw (sym is_c ∙ c-in, sym is-s ∙ n))
-
-      module _ (s-in : s ≡ true) {r : Bool} (is-r : r ≡ reaches_used b.m b.reaches) where
-        pub reaches_fail : r ≡ false → false ≡ others_in b
-        unfolding others_in
-        reaches_fail n = sym (rw (sym is_c ∙ c-in, sym is-s ∙ s-in, sym is-r ∙ n))
-
-        pub only_blanks : {z : Bool} → r ≡ true → z ≡ reaches_blank b.m b.reaches → z ≡ others_in b
-        unfolding others_in
-        only_blanks r-in is-z = is-z ∙ sym (rw (sym is_c ∙ c-in, sym is-s ∙ s-in, sym is-r ∙ r-in))
+    pub counts_pass : {r : Bool} → c ≡ true → r ≡ records_in b → r ≡ others_in b
+    unfolding others_in records_in
+    counts_pass y e = e ∙ sym (rw (sym is_c ∙ y))

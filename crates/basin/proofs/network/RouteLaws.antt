@@ -13,7 +13,6 @@ use Rattle.common.proofs.Loops.{Adding, add_begin, add_turn, add_end, sum_bound}
 use Rattle.curve.proofs.store.StoreLaws.{store_within}
 use Rattle.subbasin.specs.Record.{most_stored}
 use Rattle.basin.specs.declared.reach.Reach.{Reach}
-use Rattle.basin.specs.declared.network.Passed.{Passed}
 use Rattle.basin.specs.Reach.{blank_reach}
 use Rattle.basin.specs.Network.{send, reach_out, reach_after, passed, flows, inflow, reaches_after}
 use Rattle.basin.specs.Workers.{Passing, Flowing, Flowed}
@@ -73,21 +72,25 @@ module _ (m : ℕ) (rs : List Reach) (p : List ℕ) where
             inflow_most = omega (arith, at_most_sum pending (i + 1), ap sum pending_is, pending_most s.flowing s.wide i (omega arith));
           }
 
-      pub next_here : (get_or after i d).next < 32
-      next_here = omega (arith, in_here.in_words.next_most, s.flowing.m_most)
-
-      module _ {t : Passed} (of : (t.reach ≡ reach_after (get_or after i d) (get_or pending (i + 1) 0)) × (t.outflow ≡ reach_out (get_or after i d) (get_or pending (i + 1) 0))) where
-        reach_is : t.reach ≡ reach_after (get_or rs i blank_reach) (inflow rs p i)
+      module _ {r : Reach} {out : ℕ} (of : (r ≡ reach_after (get_or after i d) (get_or pending (i + 1) 0)) × (out ≡ reach_out (get_or after i d) (get_or pending (i + 1) 0))) where
+        reach_is : r ≡ reach_after (get_or rs i blank_reach) (inflow rs p i)
         reach_is = of.0 ∙ rw (here, inflow_here)
 
-        out_is : t.outflow ≡ reach_out (get_or rs i blank_reach) (inflow rs p i)
+        out_is : out ≡ reach_out (get_or rs i blank_reach) (inflow rs p i)
         out_is = of.1 ∙ rw (here, inflow_here)
 
-        pub sent_fits : get_or (set pending (i + 1) 0) (get_or after i d).next 0 + t.outflow ≤ 2 ^ 63
+        -- it still flows where it did
+        next_is : r.next ≡ (get_or after i d).next
+        next_is = ap (λ (x : Reach). x.next) of.0
+
+        pub next_here : r.next < 32
+        next_here = omega (arith, next_is, in_here.in_words.next_most, s.flowing.m_most)
+
+        pub sent_fits : get_or (set pending (i + 1) 0) r.next 0 + out ≤ 2 ^ 63
         sent_fits =
             omega (
               arith,
-              at_most_sum (set pending (i + 1) 0) (get_or after i d).next,
+              at_most_sum (set pending (i + 1) 0) r.next,
               sum_clear pending (i + 1),
               ap sum pending_is,
               pending_most s.flowing s.wide i (omega arith),
@@ -97,14 +100,14 @@ module _ (m : ℕ) (rs : List Reach) (p : List ℕ) where
               passing_here.inflow_most,
             )
 
-        holding_next : Adding (λ k. (reach_after (get_or rs k blank_reach) (inflow rs p k)).content) m (i + 1) (held + t.reach.content)
+        holding_next : Adding (λ k. (reach_after (get_or rs k blank_reach) (inflow rs p k)).content) m (i + 1) (held + r.content)
         holding_next = add_turn s.holding more (ap (λ (r : Reach). r.content) reach_is)
 
-        pub held_fits : held + t.reach.content ≤ 2 ^ 62
+        pub held_fits : held + r.content ≤ 2 ^ 62
         held_fits = omega (arith, holding_next.so_far, held_most s.flowing s.wide (i + 1) (omega arith))
 
-        pub routing_turn : Routing m rs p (i + 1) (set after i t.reach)
-            (set (set pending (i + 1) 0) (get_or after i d).next (get_or (set pending (i + 1) 0) (get_or after i d).next 0 + t.outflow)) (held + t.reach.content)
+        pub routing_turn : Routing m rs p (i + 1) (set after i r)
+            (set (set pending (i + 1) 0) r.next (get_or (set pending (i + 1) 0) r.next 0 + out)) (held + r.content)
         unfolding send
         routing_turn =
             record {
@@ -112,7 +115,7 @@ module _ (m : ℕ) (rs : List Reach) (p : List ℕ) where
               long = s.long;
               wide = s.wide;
               filling = fill_turn s.filling more reach_is;
-              carrying = carry_turn s.carrying more (rw (out_is, here, ← inflow_here, add-one i));
+              carrying = carry_turn s.carrying more (rw (next_is, out_is, here, ← inflow_here, add-one i));
               holding = holding_next;
             }
 

@@ -1,20 +1,20 @@
 -- What the limits of a reach say, both ways, and its tests one after the other. Assumes nothing.
 use mathlib.Core.Path.{◌≡◌, refl, sym, ◌∙◌}
-use mathlib.Core.Bool.{Bool, true, false, cond, and-false}
-use mathlib.Core.List.{List, [], ◌∷◌}
-use Prim.Native.Nat.{ℕ, suc, ◌+◌, ◌≤◌, ◌<◌}
+use mathlib.Core.Bool.{Bool, true, false, cond, ◌&&◌, and-true}
+use Prim.Native.Nat.{ℕ, zero, suc, ◌+◌, ◌≤◌, ◌<◌}
 use native.Mathlib.Omega.{arith}
 use lib.Dec.{leb, eqb}
 use borrow.Author.Tests.{le-leb, lt-leb, leb-true, ne_eqb, eqb-false}
+use Rattle.std.proofs.Common.{Option, Some, None, IfSome}
+use Rattle.std.specs.Option.{is_some}
 use Rattle.common.specs.Shares.{one}
 use Rattle.common.specs.Limits.{words_in, first_out}
 use Rattle.common.specs.Amounts.{all_up_to}
 use Rattle.common.proofs.Limits.{both, parts, refuted, Within, words_limits, words_in_lem, first_all, first_none}
-use Rattle.common.proofs.amounts.AmountLaws.{UpTo, all_limits, all_in}
 use Rattle.subbasin.specs.Record.{most_stored}
 use Rattle.basin.specs.declared.reach.Reach.{Reach}
 use Rattle.basin.specs.Network.{g_of}
-use Rattle.basin.specs.Reach.{reach_word_count, reach_words, reach_in, blank_reach, is_blank_reach}
+use Rattle.basin.specs.Reach.{reach_word_count, reach_words, number_of, reach_in, blank_reach, is_blank_reach}
 
 -- ---- a reach's words
 
@@ -75,34 +75,37 @@ module _ (m j : ℕ) (r : Reach) where
   unfolding reach_in
   reach_in_lem h = both (words_in_lem (reach_words m j r) (words_reach m j r h.in_words)) (le-leb r.content most_stored h.content_most)
 
-  -- its tests, one after the other
-  pub content_outside : most_stored < r.content → false ≡ reach_in m j r
-  unfolding reach_in
-  content_outside h = sym (rw (lt-leb r.content most_stored h, and-false))
-
-  module _ {k : ℕ} (e : k ≡ first_out (reach_words m j r)) where
-    pub words_outside : (k ≡ reach_word_count → ⊥) → false ≡ reach_in m j r
+  -- its tests, one after the other: a word outside, and then the content
+  module _ (o : Option ℕ) (is : number_of o ≡ first_out (reach_words m j r)) (one : IfSome o (λ k. k < reach_word_count)) where
+    pub words_outside : is_some o ≡ true → false ≡ reach_in m j r
     unfolding reach_in
-    words_outside n =
-        sym (rw (refuted (words_in (reach_words m j r)) (λ t. n (e ∙ first_all (reach_words m j r) (words_limits (reach_words m j r) t)))))
+    words_outside t =
+        sym
+        (refuted (words_in (reach_words m j r) && leb r.content most_stored)
+        (λ h. some_less o one t (is ∙ first_all (reach_words m j r) (words_limits (reach_words m j r) (parts (words_in (reach_words m j r)) (leb r.content most_stored) h).0))))
+      where
+        some_less : (o : Option ℕ) → IfSome o (λ k. k < reach_word_count) → is_some o ≡ true → number_of o ≡ reach_word_count → ⊥
+        some_less (Some k) l s e = omega arith
+        some_less None l s e = cc
 
-    pub all_inside : k ≡ reach_word_count → r.content ≤ most_stored → true ≡ reach_in m j r
+    pub words_inside : is_some o ≡ false → leb r.content most_stored ≡ reach_in m j r
     unfolding reach_in
-    all_inside h c = sym (both (words_in_lem (reach_words m j r) (first_none (reach_words m j r) (sym e ∙ h))) (le-leb r.content most_stored c))
+    words_inside t = rw (words_in_lem (reach_words m j r) (first_none (reach_words m j r) (sym is ∙ none_all o t)))
+      where
+        none_all : (o : Option ℕ) → is_some o ≡ false → number_of o ≡ reach_word_count
+        none_all (Some k) s = cc
+        none_all None s = refl
 
 -- ---- all zeros
 
-module _ (r : Reach) where
-  abbrev numbers : List ℕ
-  numbers = r.c0 ∷ r.c1 ∷ r.next ∷ r.content ∷ []
+zero_test : (x : ℕ) → eqb x 0 ≡ leb x 0
+zero_test zero = refl
+zero_test (suc x) = rw (lt-leb (suc x) 0 (omega arith), ne_eqb (suc x) 0 (λ e. omega arith))
 
-  pub not_blank : (UpTo 0 numbers → ⊥) → false ≡ is_blank_reach r
-  unfolding is_blank_reach
-  not_blank n = sym (refuted (all_up_to 0 numbers) (λ t. n (all_limits 0 numbers t)))
-
-  pub all_blank : UpTo 0 numbers → true ≡ is_blank_reach r
-  unfolding is_blank_reach
-  all_blank z = sym (all_in 0 numbers z)
+-- as the comparison with a record of zeros has it
+pub zeros_blank : (r : Reach) → eqb r.c0 0 && (eqb r.c1 0 && (eqb r.next 0 && eqb r.content 0)) ≡ is_blank_reach r
+unfolding is_blank_reach all_up_to
+zeros_blank r = rw (zero_test r.c0, zero_test r.c1, zero_test r.next, zero_test r.content, and-true)
 
 pub blank_reach_blank : is_blank_reach blank_reach ≡ true
 unfolding is_blank_reach all_up_to

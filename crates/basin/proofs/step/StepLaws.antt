@@ -12,7 +12,7 @@ use Rattle.common.specs.Loops.{run, sum_of}
 use Rattle.common.proofs.amounts.AmountLaws.{sum_zeros, get_or_repeat}
 use Rattle.common.proofs.Loops.{filled_length, filled_in, filled_past, sum_same}
 use Rattle.forcing.specs.declared.list.Line.{Line}
-use Rattle.forcing.specs.List.{reading}
+use Rattle.forcing.specs.List.{Forcing, reading}
 use Rattle.forcing.proofs.list.ReadLaws.{weather_length, weather_in}
 use Rattle.subbasin.specs.declared.record.SubBasin.{SubBasin}
 use Rattle.subbasin.specs.Record.{blank_sub}
@@ -27,6 +27,9 @@ use Rattle.basin.proofs.network.NetworkLaws.{Clear, send_length, send_sum, send_
 
 pub reading_weathers : (lines : List Line) (count n : ℕ) → Weathers (reading lines count n).weather
 reading_weathers lines count n = record { long = weather_length lines count n; each = weather_in lines count n }
+
+pub weathers_of : (lines : List Line) (count n : ℕ) {f : Forcing} → f ≡ reading lines count n → Weathers f.weather
+weathers_of lines count n e = rw e (reading_weathers lines count n)
 
 -- ---- what the first k sub-basins have sent
 

@@ -1,10 +1,13 @@
 -- The sub-basins' turns, one after the other: what holds before each, and what they come to. Assumes nothing.
-use mathlib.Core.Path.{◌≡◌, refl, sym, ap, ◌∙◌}
-use mathlib.Core.Bool.{Bool, true, false, cond}
+use mathlib.Core.Path.{◌≡◌, sym, ap, ◌∙◌}
+use mathlib.Core.Bool.{false}
 use mathlib.Core.List.{List}
 use Prim.Native.Nat.{ℕ, ◌+◌, ◌*◌, ◌^◌, ◌≤◌, ◌<◌}
 use native.Mathlib.Omega.{arith}
 use lib.ListN.{length, get_or, set, replicate}
+use Rattle.std.proofs.Common.{Result, Ok, Err, IsErr, IsErrAnd}
+use Rattle.common.specs.declared.refusal.Refusal.{Refusal}
+use Rattle.common.specs.declared.refusal.Refusal.TheVariants.{BadBasin}
 use Rattle.common.specs.declared.weather.Weather.{Weather}
 use Rattle.common.specs.Weather.{calm, WeatherIn}
 use Rattle.common.specs.Amounts.{sum}
@@ -22,7 +25,7 @@ use Rattle.basin.specs.State.{sub_at}
 use Rattle.basin.specs.Limits.{subs_used}
 use Rattle.basin.specs.Network.{send}
 use Rattle.basin.specs.Step.{step_of, sent_by, rain_volume, loss_volume}
-use Rattle.basin.specs.Workers.{Weathers, most_sent, Turned, TurnOf, SubsOf}
+use Rattle.basin.specs.Workers.{Weathers, most_sent, Turned, SubsDone, SubsOf}
 use Rattle.basin.proofs.network.NetworkLaws.{send_sum_most}
 use Rattle.basin.proofs.step.StepLaws.{sent_length}
 
@@ -87,72 +90,61 @@ module _ (b : Basin) (ws : List Weather) where
       pub weather_here : (d : Weather) → WeatherIn (get_or ws i d)
       weather_here d = rw (sky d) (s.weathers.each i)
 
-      module _ (d : SubBasin) (e : Weather) {t : Turn} (of : TurnOf b.m (get_or subs i d) (get_or ws i e) t) where
-        turn_of : TurnOf b.m (sub_at b i) (get_or ws i calm) t
-        turn_of = rw (here d, sky e) at of
+      pub stepping_stop : (d : SubBasin) → record_in b.m (get_or subs i d) ≡ false → subs_used b.m b.n b.subs ≡ false
+      unfolding subs_used
+      stepping_stop d n = sym (try_stop s.judging more (rw (here d) at n))
 
-        pub stepping_stop : (t.number ≡ 0 → ⊥) → {r : Subs} → r.number ≡ t.number → SubsOf b ws r
-        unfolding subs_used
-        stepping_stop n {r} q = go (record_in b.m (sub_at b i)) refl turn_of.judged
-          where
-            go : (x : Bool) → record_in b.m (sub_at b i) ≡ x → t.number ≡ cond x 0 9 → SubsOf b ws r
-            go true y j = absurd (n j)
-            go false y j =
-                record { judged = q ∙ j ∙ rw (← (try_stop s.judging more y)); done = λ z. absurd (n (sym q ∙ z)) }
+      module _ (d : SubBasin) (e : Weather) {after : SubBasin} {t : Turn} (of : Turned b.m (get_or subs i d) (get_or ws i e) after t) where
+        turned : Turned b.m (sub_at b i) (get_or ws i calm) after t
+        turned = rw (here d, sky e) at of
 
-        module _ (z : t.number ≡ 0) where
-          abbrev turned : Turned b.m (sub_at b i) (get_or ws i calm) t
-          turned = turn_of.turned z
+        pub stepping_fits : Fitting sent rain loss held t
+        stepping_fits =
+            record {
+              to_in = omega (arith, turned.to_most, s.m_most, sent_wide);
+              sent_fits = omega (arith, at_most_sum sent t.to, s.sent_most, turned.q_most, s.n_most);
+              rain_fits = omega (arith, s.rain_most, turned.rain_most, s.n_most);
+              loss_fits = omega (arith, s.loss_most, turned.loss_most, s.n_most);
+              held_fits = omega (arith, s.held_most, turned.held_most, s.n_most);
+            }
 
-          pub stepping_fits : Fitting sent rain loss held t
-          stepping_fits =
-              record {
-                to_in = omega (arith, turned.to_most, s.m_most, sent_wide);
-                sent_fits = omega (arith, at_most_sum sent t.to, s.sent_most, turned.q_most, s.n_most);
-                rain_fits = omega (arith, s.rain_most, turned.rain_most, s.n_most);
-                loss_fits = omega (arith, s.loss_most, turned.loss_most, s.n_most);
-                held_fits = omega (arith, s.held_most, turned.held_most, s.n_most);
-              }
+        pub stepping_turn : Stepping b ws (i + 1) (set subs i after) (set sent t.to (get_or sent t.to 0 + t.q)) (rain + t.rain) (loss + t.loss) (held + t.held)
+        unfolding send
+        stepping_turn =
+            record {
+              n_most = s.n_most;
+              m_most = s.m_most;
+              long = s.long;
+              weathers = s.weathers;
+              judging = try_turn s.judging more turned.allowed;
+              filling = fill_turn s.filling more turned.after_is;
+              sending = carry_turn s.sending more (rw (turned.to_is, turned.q_is));
+              raining = add_turn s.raining more turned.rain_is;
+              losing = add_turn s.losing more turned.loss_is;
+              holding = add_turn s.holding more turned.held_is;
+              sent_most = omega (arith, s.sent_most, send_sum_most sent t.to t.q, turned.q_most);
+              rain_most = omega (arith, s.rain_most, turned.rain_most);
+              loss_most = omega (arith, s.loss_most, turned.loss_most);
+              held_most = omega (arith, s.held_most, turned.held_most);
+            }
 
-          pub stepping_turn : Stepping b ws (i + 1) (set subs i t.after) (set sent t.to (get_or sent t.to 0 + t.q)) (rain + t.rain) (loss + t.loss) (held + t.held)
-          unfolding send
-          stepping_turn =
-              record {
-                n_most = s.n_most;
-                m_most = s.m_most;
-                long = s.long;
-                weathers = s.weathers;
-                judging = try_turn s.judging more (allowed (record_in b.m (sub_at b i)) refl turn_of.judged);
-                filling = fill_turn s.filling more turned.after_is;
-                sending = carry_turn s.sending more (rw (turned.to_is, turned.q_is));
-                raining = add_turn s.raining more turned.rain_is;
-                losing = add_turn s.losing more turned.loss_is;
-                holding = add_turn s.holding more turned.held_is;
-                sent_most = omega (arith, s.sent_most, send_sum_most sent t.to t.q, turned.q_most);
-                rain_most = omega (arith, s.rain_most, turned.rain_most);
-                loss_most = omega (arith, s.loss_most, turned.loss_most);
-                held_most = omega (arith, s.held_most, turned.held_most);
-              }
-            where
-              allowed : (x : Bool) → record_in b.m (sub_at b i) ≡ x → t.number ≡ cond x 0 9 → record_in b.m (sub_at b i) ≡ true
-              allowed true y j = y
-              allowed false y j = absurd (omega arith)
-
-    pub stepping_end : b.n ≤ i → SubsOf b ws (record { number = 0; subs = subs; sent = sent; rain = rain; loss = loss; held = held })
+    pub stepping_end : b.n ≤ i → SubsDone b ws subs (record { sent = sent; rain = rain; loss = loss; held = held })
     unfolding subs_used sent_by rain_volume loss_volume
     stepping_end h =
         record {
-          judged = rw (← (try_end s.judging h));
-          done =
-              λ z.
-              record {
-                long = s.long;
-                subs_are = fill_end s.filling h;
-                sent_is = carry_end s.sending h;
-                rain_is = add_end s.raining h;
-                loss_is = add_end s.losing h;
-                held_is = add_end s.holding h;
-                sent_most = omega (arith, s.sent_most, s.n_most, s.judging.place);
-                held_most = omega (arith, s.held_most, s.n_most, s.judging.place);
-              };
+          allowed = sym (try_end s.judging h);
+          long = s.long;
+          subs_are = fill_end s.filling h;
+          sent_is = carry_end s.sending h;
+          rain_is = add_end s.raining h;
+          loss_is = add_end s.losing h;
+          held_is = add_end s.holding h;
+          sent_most = omega (arith, s.sent_most, s.n_most, s.judging.place);
+          held_most = omega (arith, s.held_most, s.n_most, s.judging.place);
         }
+
+  -- one that is refused ends them, and its refusal is handed on
+  module _ (after : List SubBasin) (why : Refusal) (n : subs_used b.m b.n b.subs ≡ false) (is : why ≡ BadBasin) where
+    pub refused_so : (r : Result Subs Refusal) → IsErr r × IsErrAnd r (λ e. e ≡ why) → SubsOf b ws after r
+    refused_so (Ok x) h = cc
+    refused_so (Err e) h = (n, h.1 ∙ is)

@@ -18,8 +18,8 @@ use Rattle.forcing.proofs.list.ReadLaws.{estimated_most}
 use Rattle.subbasin.specs.Content.{water}
 use Rattle.subbasin.proofs.step.StepLaws.{rain_fits, water_fits}
 use Rattle.basin.specs.declared.state.Basin.{Basin}
-use Rattle.basin.specs.declared.step.Outcome.{Outcome}
-use Rattle.basin.specs.declared.week.Ran.{Ran}
+use Rattle.basin.specs.Step.{Outcome}
+use Rattle.basin.specs.Week.{Ran}
 use Rattle.basin.specs.State.{sub_at, reach_at, content_of}
 use Rattle.basin.specs.Limits.{basin_in}
 use Rattle.basin.specs.Step.{rain_volume, taken, step_call}
@@ -27,7 +27,7 @@ use Rattle.basin.specs.Calls.{results}
 use Rattle.basin.specs.Week.{most_steps, fits, calls_of, week_calls, up_to_refused, after, one_more, stopped, together, untaken, week_taken, week_call, WeekJudged}
 use Rattle.basin.specs.Workers.{Weathers, Shaped}
 use Rattle.basin.proofs.limits.LimitsLaws.{BasinIn, basin_limits}
-use Rattle.basin.proofs.step.CallLaws.{call_inside, answers}
+use Rattle.basin.proofs.step.JudgedLaws.{call_inside, answers}
 use Rattle.basin.proofs.step.StepLaws.{reading_weathers, step_balance}
 
 -- ---- one accepted step of a basin that 9 allows

@@ -12,4 +12,4 @@ loop-k-preserved c = fill_turn c.loop-k.invariant c.loop-k-test.true c.word-x.en
 
 pub returns : goal.returns
 unfolding file_sub
-returns c = c.of_words.ensures ∙ ap of_words (fill_end c.loop-k.invariant c.loop-k-test.false)
+returns c = c.into.ensures ∙ ap of_words (fill_end c.loop-k.invariant c.loop-k-test.false)

@@ -1,17 +1,17 @@
 -- `basin::limits::counts_allowed` meets its contract. Assumes nothing.
-use mathlib.Core.Path.{sym}
+use mathlib.Core.Path.{◌∙◌}
 use native.Mathlib.Omega.{arith}
-use Rattle.basin.proofs.limits.LimitsLaws.{n_outside, m_outside, counts_in_lem}
+use borrow.Author.Tests.{lt-leb}
+use Rattle.basin.proofs.limits.LimitsLaws.{n_outside, n_inside}
+use Rattle.basin.proofs.limits.counts_allowed.Goals.{then-n-ge1, else-n-ge1}
 use Rattle.basin.proofs.limits.counts_allowed.Goals as goal
 
-pub returns-then-n-lt1 : goal.returns-then-n-lt1
-returns-then-n-lt1 c = n_outside _ _ (λ l h. omega arith)
+pub returns-then-n-le-MOST_SUBS : goal.returns-then-n-le-MOST_SUBS
+returns-then-n-le-MOST_SUBS c = n_inside _ _ (omega arith) (omega arith)
 
-pub returns-then-n-gt-MOST_SUBS : goal.returns-then-n-gt-MOST_SUBS
-returns-then-n-gt-MOST_SUBS c = n_outside _ _ (λ l h. omega arith)
-
-pub returns-then-m-gt-MOST_REACHES : goal.returns-then-m-gt-MOST_REACHES
-returns-then-m-gt-MOST_REACHES c = m_outside _ _ c.if-m-gt-MOST_REACHES.true
-
-pub returns : goal.returns
-returns c = sym (counts_in_lem _ _ (record { n_least = omega arith; n_most = omega arith; m_most = omega arith }))
+pub returns-else-n-le-MOST_SUBS : goal.returns-else-n-le-MOST_SUBS
+returns-else-n-le-MOST_SUBS c =
+    elim c.if-n-ge1.branch [
+      | then-n-ge1 w ↦ w.t-4-is ∙ lt-leb _ _ (omega arith) ∙ n_outside _ _ (λ l h. omega arith)
+      | else-n-ge1 w ↦ w.t-4-is ∙ lt-leb _ _ (omega arith) ∙ n_outside _ _ (λ l h. omega arith)
+    ]

@@ -1,19 +1,20 @@
-use mathlib.Core.Path.{sym, ◌∙◌}
+-- `basin::limits::reaches_blank` meets its contract. Assumes nothing.
+use mathlib.Core.Path.{◌∙◌}
+use Prim.Native.Nat.{◌-◌}
 use native.Mathlib.Omega.{arith}
-use Rattle.common.proofs.Loops.{try_begin, try_turn, try_stop, try_end}
+use lib.ListN.{take, drop, length-drop}
+use Rattle.std.proofs.Common.{rules, tests}
+use Rattle.std.proofs.lemmas.Iterator.{YieldsList-from_slice}
+use Rattle.std.proofs.lemmas.Iterator.Search.{all_from_yields_List}
+use Rattle.basin.specs.Reach.{blank_reach, is_blank_reach}
+use Rattle.basin.specs.State.{most_reaches}
 use Rattle.basin.specs.Limits.{reaches_blank}
+use Rattle.basin.proofs.limits.LimitsLaws.{all_left}
 use Rattle.basin.proofs.limits.reaches_blank.Goals as goal
-
-pub loop-k-init : goal.loop-k-init
-loop-k-init c = try_begin
-
-pub loop-k-preserved : goal.loop-k-preserved
-loop-k-preserved c = try_turn c.loop-k.invariant (omega arith) (sym c.is_blank.ensures ∙ c.if-is_blank.true)
-
-pub returns-else-is_blank : goal.returns-else-is_blank
-unfolding reaches_blank
-returns-else-is_blank c = try_stop c.loop-k.invariant (omega arith) (sym c.is_blank.ensures ∙ c.if-is_blank.false)
 
 pub returns : goal.returns
 unfolding reaches_blank
-returns c = try_end c.loop-k.invariant c.loop-k-test.false
+returns c =
+    all_from_yields_List is_blank_reach _ _ c.all.result c.all.ensures.ran (YieldsList-from_slice (take (most_reaches - c.args.m) (drop c.args.m c.args.reaches.now)) c.iter.ensures.rest)
+    (λ x b q k. search (rules, tests))
+    ∙ all_left is_blank_reach blank_reach c.args.reaches.now c.args.m (most_reaches - c.args.m) (omega (arith, length-drop c.args.m c.args.reaches.now))

@@ -1,5 +1,5 @@
 -- `basin::limits::reaches_used` meets its contract. The loop's invariant: every reach before j is inside its limits. Assumes nothing.
-use Prim.Native.Nat.{suc, ◌-◌}
+use Prim.Native.Nat.{suc}
 use lib.ListN.{get_or}
 use Rattle.common.proofs.Loops.{Trying}
 use Rattle.basin.specs.Reach.{blank_reach, reach_in}
@@ -7,6 +7,3 @@ use Rattle.basin.proofs.limits.reaches_used.Given as goal
 
 abbrev pub invariant-loop-j : goal.invariant-loop-j
 invariant-loop-j l = Trying (λ k. reach_in l.m (suc k) (get_or l.reaches k blank_reach)) l.m l.j
-
-abbrev pub decreases-loop-j : goal.decreases-loop-j
-decreases-loop-j l = l.m - l.j

@@ -1,23 +1,18 @@
-use mathlib.Core.Path.{sym, ◌∙◌}
-use Rattle.common.proofs.Loops.{try_begin, try_turn, try_stop, try_end}
+-- `basin::limits::subs_used` meets its contract. Assumes nothing.
+use mathlib.Core.Path.{◌∙◌}
+use native.Mathlib.Omega.{arith}
+use lib.ListN.{take}
+use Rattle.std.proofs.Common.{rules, tests}
+use Rattle.std.proofs.lemmas.Iterator.{YieldsList-from_slice}
+use Rattle.std.proofs.lemmas.Iterator.Search.{all_from_yields_List}
+use Rattle.subbasin.specs.Record.{blank_sub, record_in}
 use Rattle.basin.specs.Limits.{subs_used}
-use Rattle.basin.proofs.limits.LimitsLaws.{used_read}
+use Rattle.basin.proofs.limits.LimitsLaws.{all_taken}
 use Rattle.basin.proofs.limits.subs_used.Goals as goal
-
-pub loop-i-init : goal.loop-i-init
-loop-i-init c = try_begin
-
-pub loop-i-preserved : goal.loop-i-preserved
-loop-i-preserved c =
-    try_turn c.loop-i.invariant c.loop-i-test.true
-    (sym (used_read _ c.args.subs c.loop-i.i) ∙ sym c.allowed.ensures ∙ c.if-allowed.true)
-
-pub returns-else-allowed : goal.returns-else-allowed
-unfolding subs_used
-returns-else-allowed c =
-    try_stop c.loop-i.invariant c.loop-i-test.true
-    (sym (used_read _ c.args.subs c.loop-i.i) ∙ sym c.allowed.ensures ∙ c.if-allowed.false)
 
 pub returns : goal.returns
 unfolding subs_used
-returns c = try_end c.loop-i.invariant c.loop-i-test.false
+returns c =
+    all_from_yields_List (record_in c.args.m) _ _ c.all.result c.all.ensures.ran (YieldsList-from_slice (take c.args.n c.args.subs.now) cc)
+    (λ x b q k. search (rules, tests))
+    ∙ all_taken (record_in c.args.m) blank_sub _ _ (omega arith)

@@ -1,12 +1,7 @@
--- `basin::step::step_subs` meets its contract: before each turn `Stepping` holds. The measure is the count of sub-basins that are left.
--- Assumes nothing.
-use Prim.Native.Nat.{◌-◌}
+-- `basin::step::step_subs` meets its contract: before each turn `Stepping` holds. Assumes nothing.
 use Rattle.basin.specs.Workers.{subs_only}
 use Rattle.basin.proofs.step.SubsLaws.{Stepping}
 use Rattle.basin.proofs.step.step_subs.Given as goal
 
 abbrev pub invariant-loop-i : goal.invariant-loop-i
 invariant-loop-i l = Stepping (subs_only l.n l.m l.initial.subs) l.weather l.i l.subs l.sent l.rain l.loss l.held
-
-abbrev pub decreases-loop-i : goal.decreases-loop-i
-decreases-loop-i l = l.n - l.i

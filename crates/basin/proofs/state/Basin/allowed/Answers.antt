@@ -1,10 +1,10 @@
--- `basin::state::allowed` meets its contract. Assumes nothing.
+-- `basin::state::Basin::allowed` meets its contract. Assumes nothing.
 use mathlib.Core.Path.{◌≡◌, sym, ◌∙◌}
 use mathlib.Core.Bool.{Bool, true}
 use Rattle.basin.specs.declared.state.Basin.{Basin}
 use Rattle.basin.specs.Limits.{basin_in, Unused}
 use Rattle.basin.proofs.limits.LimitsLaws.{others_limits, basin_limits, basin_used, basin_others}
-use Rattle.basin.proofs.state.allowed.Goals as goal
+use Rattle.basin.proofs.state.Basin.allowed.Goals as goal
 
 -- the answer's equation, and what it says of the records past N and M
 answered : (b : Basin) {r : Bool} → r ≡ basin_in b → record { answers : r ≡ basin_in b; judges : r ≡ true → Unused b }
@@ -20,5 +20,6 @@ subs_used-requires c = (others_limits _ (sym c.others_allowed.ensures ∙ c.if-o
 pub returns-then-others_allowed : goal.returns-then-others_allowed
 returns-then-others_allowed c = answered _ (c.subs_used.ensures ∙ sym (basin_used _ (sym c.others_allowed.ensures ∙ c.if-others_allowed.true)))
 
-pub returns : goal.returns
-returns c = answered _ (sym (basin_others _ (sym c.others_allowed.ensures ∙ c.if-others_allowed.false)))
+pub returns-else-others_allowed : goal.returns-else-others_allowed
+returns-else-others_allowed c =
+    answered _ (c.if-others_allowed.false ∙ sym (basin_others _ (sym c.others_allowed.ensures ∙ c.if-others_allowed.false)))

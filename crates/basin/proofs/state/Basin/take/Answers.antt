@@ -1,0 +1,27 @@
+-- `basin::state::Basin::take` meets its contract. Assumes nothing.
+use native.Mathlib.Omega.{arith}
+use Rattle.std.proofs.Common.{Ok}
+use Rattle.forcing.specs.List.{as_forcing}
+use Rattle.basin.proofs.limits.LimitsLaws.{others_limits}
+use Rattle.basin.proofs.step.CallLaws.{subs_refuse, flowing, taken_is}
+use Rattle.basin.proofs.state.Basin.take.Goals as goal
+
+pub step_subs-requires : goal.step_subs-requires
+step_subs-requires c =
+    let pre = c.requires in
+    let others = others_limits _ pre.0 in
+    (others.n_most, others.m_most, pre.1)
+
+pub returns-in_err-stepped : goal.returns-in_err-stepped
+returns-in_err-stepped c =
+    let stepped = c.in_err-stepped.ensures in
+    subs_refuse _ _ c.requires.0 stepped.0 stepped.1 _ c.from_residual.ensures
+
+pub route-routed-requires : goal.route-routed-requires
+route-routed-requires c = flowing _ (as_forcing (Ok c.args.readings.now)) c.requires.0 c.in_ok-stepped.ensures
+
+pub overflow_add-result : goal.overflow_add-result
+overflow_add-result c = omega (arith, c.in_ok-stepped.ensures.held_most, c.route-routed.ensures.held_most)
+
+pub returns : goal.returns
+returns c = taken_is _ _ c.requires.0 c.in_ok-stepped.ensures c.route-routed.ensures
