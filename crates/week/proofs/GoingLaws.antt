@@ -1,212 +1,234 @@
 -- A week on its way, and how it comes to the definition's answer. Assumes nothing.
-use mathlib.Core.Path.{◌≡◌, refl, sym, ap, ◌∙◌}
-use mathlib.Core.Bool.{Bool, true, false, cond}
-use mathlib.Core.List.{List, [], ◌∷◌}
-use Prim.Native.Nat.{ℕ, zero, suc, ◌+◌, ◌-◌, ◌*◌, ◌/◌, ◌^◌, ◌≤◌, ◌<◌}
-use native.Mathlib.Nat.{zero-add, suc-add, suc-mul, mul-le-mul_right, mod-add-div', div-le_of_le-mul}
+use mathlib.Core.Path.{◌≡◌, refl, sym, ap, subst, ◌∙◌}
+use mathlib.Core.Bool.{Bool, true, false}
+use mathlib.Core.List.{List, [], ◌∷◌, ◌++◌}
+use Prim.Native.Nat.{ℕ, zero, suc, ◌+◌, ◌*◌, ◌/◌, ◌^◌, ◌≤◌, ◌<◌}
+use native.Mathlib.Nat.{add-div_left, div-eq_of_lt, div-le_of_le-mul}
 use native.Mathlib.Numerals.{add-one}
 use native.Mathlib.Omega.{arith}
 use lib.Dec.{eqb}
-use lib.ListN.{length, drop}
-use lib.Seq.{drop-nil}
-use borrow.Author.Tests.{eq-eqb, ne_eqb, eqb-true, eqb-false}
+use lib.ListN.{length, drop, replicate}
+use lib.Seq.{drop-append_seam}
+use Rattle.std.proofs.Common.{length-append, None, Ok, Err}
+use borrow.Author.Tests.{eq-eqb, ne_eqb}
+use Rattle.common.specs.declared.refusal.Refusal.{Refusal}
+use Rattle.common.specs.declared.refusal.Refused.{Refused}
+use Rattle.common.specs.Refusals.{number_of}
+use Rattle.common.proofs.Refusals.{number_some}
+use Rattle.common.proofs.Loops.{filled_same}
 use Rattle.forcing.specs.declared.list.Line.{Line}
+use Rattle.forcing.specs.List.{blank, line_at}
 use Rattle.basin.specs.declared.state.Basin.{Basin}
 use Rattle.basin.specs.declared.step.Report.{Report}
-use Rattle.basin.specs.declared.step.Outcome.{Outcome}
-use Rattle.basin.specs.declared.week.Ran.{Ran}
+use Rattle.basin.specs.declared.week.Week.{Week}
 use Rattle.basin.specs.State.{content_of}
 use Rattle.basin.specs.Limits.{basin_in}
-use Rattle.basin.specs.Step.{step_call}
-use Rattle.basin.specs.Calls.{results}
-use Rattle.basin.specs.Week.{most_steps, fits, step_lines, calls_of, up_to_refused, joined, one_more, stopped, together, untaken, week_call, WeekJudged}
+use Rattle.basin.specs.Step.{Outcome, zeros, as_outcome, step_call}
+use Rattle.basin.specs.Calls.{Call, results}
+use Rattle.basin.specs.Week.{Ran, most_steps, step_lines, calls_of, week_calls, up_to_refused, joined, as_ran, one_more, stopped, together, untaken, week_call, WeekJudged}
 use Rattle.basin.specs.Workers.{Shaped}
 use Rattle.basin.proofs.week.WeekLaws.{count_in, content_most, reported, after_accepted, after_refused, week_nine, week_length, week_taken_lem, fitting, week_judged}
-use Rattle.week.specs.declared.Going.{Going}
-use Rattle.week.specs.Workers.{halted, begun, gone_on_as, gone_on, Room, SumsFit}
+use Rattle.week.specs.Workers.{Fits, Refuses, SumsFit}
 
--- the answer of a week that goes on from here
-abbrev finish : List Line → Going → Ran
-finish lines g = together g.ran (results g.ran.basin (up_to_refused g.ran.basin (calls_of g.n g.left (drop g.at lines))))
+-- the answer of a week that goes on from here, with the lines `rest` to come
+abbrev finish : ℕ → List Line → Ran → Ran
+finish n rest w = together w (results w.basin (up_to_refused w.basin (week_calls n rest)))
 
-pub record Along (b : Basin) (lines : List Line) (g : Going) : Type 0 where
-  pub answer : finish lines g ≡ week_call b lines
-  pub inside : g.at + g.left * g.n ≤ length lines
-  pub few : g.n ≤ 32
-  pub short : g.ran.count + g.left ≤ most_steps
-  pub rain_most : g.ran.report.rain ≤ g.ran.count * 2 ^ 38
-  pub estimated_few : g.ran.report.estimated ≤ g.ran.count * 32
-  pub balance : content_of g.ran.basin + (g.ran.report.evapotranspiration + g.ran.report.outlet) ≡ content_of b + g.ran.report.rain
-  pub start_most : 1 ≤ g.left → content_of b ≤ 2 ^ 63
+pub record Along (b : Basin) (lines : List Line) (n : ℕ) (rest : List Line) (w : Ran) : Type 0 where
+  pub answer : finish n rest w ≡ week_call b lines
+  pub some : 1 ≤ n
+  pub few : n ≤ 32
+  pub short : w.count + length rest / n ≤ most_steps
+  pub rain_most : w.report.rain ≤ w.count * 2 ^ 38
+  pub estimated_few : w.report.estimated ≤ w.count * 32
+  pub balance : content_of w.basin + (w.report.evapotranspiration + w.report.outlet) ≡ content_of b + w.report.rain
+  pub start_most : content_of b ≤ 2 ^ 63
 
-drop_more : (i j : ℕ) (l : List Line) → drop j (drop i l) ≡ drop (i + j) l
-drop_more zero j l = ap (λ (k : ℕ). drop k l) (sym (zero-add j))
-drop_more (suc i) j [] = drop-nil j ∙ sym (drop-nil (suc i + j))
-drop_more (suc i) j (x ∷ l) = drop_more i j l ∙ ap (λ (k : ℕ). drop k (x ∷ l)) (sym (suc-add i j))
+line_of_both : (here after : List Line) (k : ℕ) → k < length here → line_at (here ++ after) k ≡ line_at here k
+line_of_both [] after k l = absurd (omega arith)
+line_of_both (x ∷ here) after zero l = refl
+line_of_both (x ∷ here) after (suc k) l = line_of_both here after k (omega arith)
 
-one_less : (k : ℕ) → suc k - 1 ≡ k
-one_less k = omega arith
+-- the calls of whole steps: the first one's, and those of the rest
+module _ {n : ℕ} (here after : List Line) (some : 1 ≤ n) (long : length here ≡ n) where
+  together_long : length (here ++ after) ≡ n + length after
+  together_long = omega (arith, length-append here after, long)
 
--- one step on, where its outcome is known
-module _ (b : Basin) (lines : List Line) (k at n : ℕ) (w : Ran) (h : Along b lines (record { left = suc k; at = at; n = n; ran = w })) (sh : Shaped w.basin) where
-  abbrev here : List Line
-  here = step_lines n (drop at lines)
+  one_step : length (here ++ after) / n ≡ suc (length after / n)
+  one_step = ap (λ k. k / n) together_long ∙ add-div_left (length after) some ∙ add-one (length after / n)
 
-  abbrev o : Outcome
-  o = step_call w.basin here n
+  same_lines : step_lines n (here ++ after) ≡ step_lines n here
+  same_lines = filled_same (line_at (here ++ after)) (line_at here) n (replicate 32 blank) (λ k l. line_of_both here after k (omega (arith, long, l)))
 
-  on_accepted : o.number ≡ 0 → Along b lines (record { left = k; at = at + n; n = n; ran = one_more w o })
-  unfolding calls_of up_to_refused results together
+  calls_parted : week_calls n (here ++ after) ≡ record { lines = step_lines n here; count = n } ∷ week_calls n after
+  unfolding week_calls calls_of
+  calls_parted =
+      let rest : drop n (here ++ after) ≡ after = ap (λ k. drop k (here ++ after)) (sym long) ∙ drop-append_seam here after in
+      rw (one_step, same_lines, rest)
+
+-- the first of some calls
+module _ (w : Ran) (c : Call) (cs : List Call) where
+  abbrev first : Outcome
+  first = step_call w.basin c.lines c.count
+
+  one_taken : eqb first.number 0 ≡ true
+      → together w (results w.basin (up_to_refused w.basin (c ∷ cs))) ≡ together (one_more w first) (results first.basin (up_to_refused first.basin cs))
+  unfolding up_to_refused results together
+  one_taken t = rw (t, after_accepted w first t)
+
+  one_refused : eqb first.number 0 ≡ false → together w (results w.basin (up_to_refused w.basin (c ∷ cs))) ≡ stopped w first
+  unfolding up_to_refused results together
+  one_refused t = rw t (after_refused w first t)
+
+-- one step on
+module _ {b : Basin} {lines : List Line} {n : ℕ} {rest : List Line} {w : Ran} (h : Along b lines n rest w)
+    (here after : List Line) (parted : rest ≡ here ++ after) (long : length here ≡ n) (sh : Shaped w.basin)
+    {o : Outcome} (is : o ≡ step_call w.basin (step_lines n here) n) where
+  left : length rest / n ≡ suc (length after / n)
+  left = ap (λ l. length l / n) parted ∙ one_step here after h.some long
+
+  calls : week_calls n rest ≡ record { lines = step_lines n here; count = n } ∷ week_calls n after
+  calls = ap (week_calls n) parted ∙ calls_parted here after h.some long
+
+  abbrev call : Call
+  call = record { lines = step_lines n here; count = n }
+
+  from_here : finish n rest w ≡ together w (results w.basin (up_to_refused w.basin (call ∷ week_calls n after)))
+  from_here = ap (λ cs. together w (results w.basin (up_to_refused w.basin cs))) calls
+
+  pub on_accepted : o.number ≡ 0 → Along b lines n after (one_more w o)
   on_accepted z =
-      let r = reported w.basin here n sh {o = o} refl z in
+      let r = reported w.basin (step_lines n here) n sh is z in
       let t : eqb o.number 0 ≡ true = eq-eqb o.number 0 z in
       record {
-        answer = sym (rw (t, after_accepted w o t, drop_more at n lines)) ∙ h.answer;
-        inside = omega (arith, h.inside, suc-mul k n);
+        answer = sym (from_here ∙ one_taken w call (week_calls n after) (ap (λ (p : Outcome). eqb p.number 0) (sym is) ∙ t) ∙ ap (λ (p : Outcome). together (one_more w p) (results p.basin (up_to_refused p.basin (week_calls n after)))) (sym is)) ∙ h.answer;
+        some = h.some;
         few = h.few;
-        short = omega (arith, h.short);
+        short = omega (arith, h.short, left);
         rain_most = omega (arith, h.rain_most, r.rain_most);
         estimated_few = omega (arith, h.estimated_few, r.estimated_few);
         balance = omega (arith, h.balance, r.balance);
-        start_most = λ l. h.start_most (omega arith);
+        start_most = h.start_most;
       }
 
-  on_refused : (o.number ≡ 0 → ⊥) → Along b lines (record { left = 0; at = at; n = n; ran = stopped w o })
-  unfolding calls_of up_to_refused results together
+  pub on_refused : (o.number ≡ 0 → ⊥) → (stopped w o ≡ week_call b lines) × WeekJudged b lines (stopped w o)
   on_refused z =
       let t : eqb o.number 0 ≡ false = ne_eqb o.number 0 z in
+      week_judged b lines (sym (from_here ∙ one_refused w call (week_calls n after) (ap (λ (p : Outcome). eqb p.number 0) (sym is) ∙ t) ∙ ap (stopped w) (sym is)) ∙ h.answer) h.balance
+
+  pub count_less : w.count < most_steps
+  count_less = omega (arith, h.short, left)
+
+  pub sums_fit : o.number ≡ 0 → SumsFit w.report o.report
+  sums_fit z =
+      let r = reported w.basin (step_lines n here) n sh is z in
       record {
-        answer = sym (rw t (after_refused w o t)) ∙ h.answer;
-        inside = omega (arith, h.inside);
-        few = h.few;
-        short = omega (arith, h.short);
-        rain_most = h.rain_most;
-        estimated_few = h.estimated_few;
-        balance = h.balance;
-        start_most = λ l. absurd (omega arith);
+        rain_fits = omega (arith, h.rain_most, h.short, r.rain_most);
+        evapotranspiration_fits = omega (arith, h.balance, h.start_most, h.rain_most, h.short, r.rain_most, r.balance);
+        outlet_fits = omega (arith, h.balance, h.start_most, h.rain_most, h.short, r.rain_most, r.balance);
+        estimated_fits = omega (arith, h.estimated_few, h.short, r.estimated_few);
       }
 
-  on_case : (t : Bool) → eqb o.number 0 ≡ t → Along b lines (gone_on_as (record { left = suc k; at = at; n = n; ran = w }) o)
-  on_case true e = rw (e, one_less k) (on_accepted (eqb-true o.number 0 e))
-  on_case false e = rw e (on_refused (eqb-false o.number 0 e))
+-- after the last step
+pub along_end : {b : Basin} {lines : List Line} {n : ℕ} {rest : List Line} {w : Ran} → Along b lines n rest w → length rest < n
+    → (w ≡ week_call b lines) × WeekJudged b lines w
+unfolding week_calls calls_of up_to_refused results together
+along_end {b} {lines} {n} {rest} h few =
+    let none : length rest / n ≡ 0 = div-eq_of_lt few in
+    week_judged b lines (sym (rw none) ∙ h.answer) h.balance
 
-on_left : (b : Basin) (lines : List Line) (left at n : ℕ) (w : Ran) → Along b lines (record { left = left; at = at; n = n; ran = w }) → 1 ≤ left → Shaped w.basin
-    → Along b lines (gone_on_as (record { left = left; at = at; n = n; ran = w }) (step_call w.basin (step_lines n (drop at lines)) n))
-on_left b lines zero at n w h l sh = absurd (omega arith)
-on_left b lines (suc k) at n w h l sh = on_case b lines k at n w h sh (eqb (step_call w.basin (step_lines n (drop at lines)) n).number 0) refl
-
-pub along_on : (b : Basin) (lines : List Line) (g : Going) → Along b lines g → 1 ≤ g.left → Shaped g.ran.basin
-    → Along b lines (gone_on g (step_lines g.n (drop g.at lines)))
-unfolding gone_on
-along_on b lines g h l sh = on_left b lines g.left g.at g.n g.ran h l sh
-
-pub along_room : (b : Basin) (lines : List Line) (g : Going) → Along b lines g → 1 ≤ g.left → Shaped g.ran.basin → length lines < 2 ^ 64 → Room g
-along_room b lines g h l sh few =
-    record {
-      shaped = sh;
-      some_left = l;
-      at_most = omega (arith, h.inside, mul-le-mul_right g.n l);
-      count_most = omega (arith, h.short);
-      rain_most = omega (arith, h.rain_most, h.short);
-      out_most = omega (arith, h.balance, h.start_most l);
-      estimated_most = omega (arith, h.estimated_few, h.short);
-    }
-
--- a step is one less, and a refusal leaves none
-pub along_less : (g : Going) (lines : List Line) → 1 ≤ g.left → (gone_on g lines).left < g.left
-unfolding gone_on
-along_less g lines l = less (eqb (step_call g.ran.basin lines g.n).number 0)
-  where
-    less : (t : Bool) → (cond {A = Going} t (record { left = g.left - 1; at = g.at + g.n; n = g.n; ran = one_more g.ran (step_call g.ran.basin lines g.n) })
-        (record { left = 0; at = g.at; n = g.n; ran = stopped g.ran (step_call g.ran.basin lines g.n) })).left < g.left
-    less true = omega arith
-    less false = omega arith
-
--- the lines of the next step are there
-pub along_inside : (b : Basin) (lines : List Line) (g : Going) → Along b lines g → 1 ≤ g.left → (g.at + g.n ≤ length lines) × (g.n ≤ 32)
-along_inside b lines g h l = (omega (arith, h.inside, mul-le-mul_right g.n l), h.few)
-
--- ---- before the first step
-
-module _ (b : Basin) (lines : List Line) (sh : Shaped b) where
-  halted_along : (number : ℕ) → untaken b number ≡ week_call b lines → Along b lines (halted (untaken b number))
-  unfolding calls_of up_to_refused results together
-  halted_along number e =
+-- before the first
+module _ {b : Basin} {lines : List Line} where
+  pub begun_along : Fits b (length lines) → Along b lines b.n lines (untaken b 0)
+  unfolding week_calls
+  begun_along f =
+      let n-in = count_in b f.allowed in
+      let whole = fitting b.n (length lines) f.fitting in
       record {
-        answer = e;
-        inside = omega arith;
-        few = omega arith;
-        short = omega arith;
+        answer = sym (week_taken_lem b lines f.allowed f.fitting);
+        some = n-in.0;
+        few = n-in.1;
+        short = omega (arith, div-le_of_le-mul b.n {m = length lines} {n = most_steps} (omega (arith, whole.most)));
         rain_most = omega arith;
         estimated_few = omega arith;
         balance = omega arith;
-        start_most = λ l. absurd (omega arith);
+        start_most = content_most b f.allowed f.shaped;
       }
 
-  started_along : basin_in b ≡ true → fits b.n (length lines) ≡ true → Along b lines (record { left = length lines / b.n; at = 0; n = b.n; ran = untaken b 0 })
-  started_along e d =
-      let h = count_in b e in
-      let f = fitting b.n (length lines) d in
-      record {
-        answer = sym (week_taken_lem b lines e d);
-        inside = omega (arith, mod-add-div' (length lines) b.n);
-        few = h.1;
-        short = omega (arith, div-le_of_le-mul b.n {m = length lines} {n = most_steps} (omega (arith, f.most)));
-        rain_most = omega arith;
-        estimated_few = omega arith;
-        balance = omega arith;
-        start_most = λ l. content_most b e sh;
-      }
-
-  pub begun_along : Along b lines (begun b (length lines))
-  unfolding begun
-  begun_along = go (basin_in b) (fits b.n (length lines)) refl refl
+  pub begun_refused : {why : Refusal} → Refuses b (length lines) why
+      → (untaken b (number_of why) ≡ week_call b lines) × WeekJudged b lines (untaken b (number_of why))
+  begun_refused {why} r = week_judged b lines (by_test' (basin_in b) refl) (omega arith)
     where
-      go : (t u : Bool) → basin_in b ≡ t → fits b.n (length lines) ≡ u → Along b lines (begun b (length lines))
-      go false u e d = rw e (halted_along 9 (week_nine b lines e))
-      go true false e d = rw (e, d) (halted_along 5 (week_length b lines e d))
-      go true true e d = rw (e, d) (started_along e d)
+      by_test' : (t : Bool) → basin_in b ≡ t → untaken b (number_of why) ≡ week_call b lines
+      by_test' false e = ap (untaken b) (r.nine e) ∙ week_nine b lines e
+      by_test' true e = ap (untaken b) (r.five e).1 ∙ week_length b lines e (r.five e).0
 
--- ---- what the workers answer
+-- ---- the week in the code
 
-module _ (b : Basin) (long : ℕ) where
-  pub begun_whole : basin_in b ≡ true → fits b.n long ≡ true → {w : Ran} → w ≡ untaken b 0
-      → record { left = long / b.n; at = 0; n = b.n; ran = w } ≡ begun b long
-  unfolding begun
-  begun_whole e d q = rw (e, d, q)
+-- a week that has refused no step
+abbrev so_far : Basin → Week → Ran
+so_far b w = record { number = 0; place = 0; basin = b; count = w.count; report = w.report }
 
-  pub begun_length : basin_in b ≡ true → fits b.n long ≡ false → halted (untaken b 5) ≡ begun b long
-  unfolding begun
-  begun_length e d = sym (rw (e, d))
+-- between two steps, where the iterator's parts are of this size and `rest` is to come
+pub record Going (b : Basin) (lines : List Line) (n size : ℕ) (rest : List Line) (now : Basin) (w : Week) : Type 0 where
+  pub along : Along b lines n rest (so_far now w)
+  pub none : w.refusal ≡ None
+  pub size_is : size ≡ n
+  pub shaped : Shaped now
 
-  pub begun_nine : basin_in b ≡ false → halted (untaken b 9) ≡ begun b long
-  unfolding begun
-  begun_nine e = sym (rw e)
+pub going_begun : {b : Basin} {lines rest : List Line} {size : ℕ} → Fits b (length lines) → size ≡ b.n → rest ≡ lines
+    → Going b lines b.n size rest b (record { count = 0; report = zeros; refusal = None })
+going_begun {b} {lines} f s r =
+    record { along = subst (λ l. Along b lines b.n l (untaken b 0)) (sym r) (begun_along f); none = refl; size_is = s; shaped = f.shaped }
 
-module _ (g : Going) (here : List Line) {o : Outcome} (e : o ≡ step_call g.ran.basin here g.n) where
-  pub gone_refused : (o.number ≡ 0 → ⊥) → record { left = 0; at = g.at; n = g.n; ran = stopped g.ran o } ≡ gone_on g here
-  unfolding gone_on
-  gone_refused z = sym (rw (← e, ne_eqb o.number 0 z))
+-- the iterator's next part
+module _ {b : Basin} {lines : List Line} {n size : ℕ} {rest : List Line} {now : Basin} {w : Week} (g : Going b lines n size rest now w)
+    (here after : List Line) (parted : (rest ≡ here ++ after) × (length here ≡ size)) where
+  abbrev at : Outcome
+  at = step_call now (step_lines n here) n
 
-  module _ (z : o.number ≡ 0) where
-    pub gone_accepted : {r : Report} → r ≡ joined g.ran.report o.report
-        → record { left = g.left - 1; at = g.at + g.n; n = g.n; ran = record { number = 0; place = 0; basin = o.basin; count = g.ran.count + 1; report = r } }
-        ≡ gone_on g here
-    unfolding gone_on
-    gone_accepted q = sym (rw (← e, eq-eqb o.number 0 z, ← q, ← (add-one g.ran.count)))
+  long : length here ≡ n
+  long = parted.1 ∙ g.size_is
 
-    pub sums_fit : Room g → SumsFit g.ran.report o.report
-    sums_fit room =
-        let r = reported g.ran.basin here g.n room.shaped e z in
+  pub going_few : length here ≤ 32
+  going_few = omega (arith, long, g.along.few)
+
+  pub going_count : w.count < most_steps
+  going_count = count_less g.along here after parted.0 long g.shaped refl
+
+  module _ {l : List Line} (read : l ≡ step_lines (length here) here) where
+    same_call : step_call now l n ≡ at
+    same_call = ap (λ k. step_call now k n) (read ∙ ap (λ k. step_lines k here) long)
+
+    pub going_fits : {then : Basin} {report : Report} → as_outcome then (Ok report) ≡ step_call now l n → SumsFit w.report report
+    going_fits e = sums_fit g.along here after parted.0 long g.shaped (e ∙ same_call) refl
+
+    pub going_on : {then : Basin} {report sums : Report} {next : ℕ} → as_outcome then (Ok report) ≡ step_call now l n → sums ≡ joined w.report report → next ≡ size
+        → Going b lines n next after then (record { count = w.count + 1; report = sums; refusal = w.refusal })
+    going_on {then} e j s =
         record {
-          rain_fits = omega (arith, room.rain_most, r.rain_most);
-          evapotranspiration_fits = omega (arith, room.out_most, room.rain_most, r.rain_most, r.balance);
-          outlet_fits = omega (arith, room.out_most, room.rain_most, r.rain_most, r.balance);
-          estimated_fits = omega (arith, room.estimated_most, r.estimated_few);
+          along = rw (j, add-one w.count) (on_accepted g.along here after parted.0 long g.shaped (e ∙ same_call) refl);
+          none = g.none;
+          size_is = s ∙ g.size_is;
+          shaped = (reported now (step_lines n here) n g.shaped (e ∙ same_call) refl).shaped;
         }
 
--- ---- after the last step
+    pub going_stopped : {then : Basin} (e : Refused) → as_outcome then (Err e) ≡ step_call now l n → then ≡ now
+        → record {
+          answers : record { number = number_of e.why; place = e.place; basin = then; count = w.count; report = w.report } ≡ week_call b lines;
+          judges : WeekJudged b lines (record { number = number_of e.why; place = e.place; basin = then; count = w.count; report = w.report });
+        }
+    going_stopped {then} e is same =
+        let h = on_refused g.along here after parted.0 long g.shaped (is ∙ same_call) (λ z. omega (arith, z, number_some e.why)) in
+        rw same (record { answers = h.0; judges = h.1 })
 
-pub along_end : (b : Basin) (lines : List Line) (g : Going) → Along b lines g → g.left ≡ 0 → (g.ran ≡ week_call b lines) × WeekJudged b lines g.ran
-unfolding calls_of up_to_refused results together
-along_end b lines g h z = week_judged b lines (sym (rw z) ∙ h.answer) h.balance
+pub going_end : {b : Basin} {lines : List Line} {n size : ℕ} {rest : List Line} {now : Basin} {w : Week} → Going b lines n size rest now w → length rest < size
+    → record { answers : as_ran now w ≡ week_call b lines; judges : WeekJudged b lines (as_ran now w) }
+going_end g few = let h = along_end g.along (omega (arith, few, g.size_is)) in rw g.none (record { answers = h.0; judges = h.1 })
+
+pub going_refused : {b : Basin} {lines : List Line} {e : Refused} {why : Refusal} → Refuses b (length lines) why → e ≡ record { why = why; place = 0 }
+    → record {
+      answers : record { number = number_of e.why; place = e.place; basin = b; count = 0; report = zeros } ≡ week_call b lines;
+      judges : WeekJudged b lines (record { number = number_of e.why; place = e.place; basin = b; count = 0; report = zeros });
+    }
+going_refused r e = let h = begun_refused r in rw e (record { answers = h.0; judges = h.1 })

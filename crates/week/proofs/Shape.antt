@@ -22,11 +22,6 @@ use Rattle.basin.specs.State.{sub_at}
 use Rattle.basin.specs.Workers.{Shaped}
 use Rattle.basin.specs.contracts.state.Basin as B
 use Rattle.basin.proofs.state.Basin.TheLaws as B'
-use Rattle.basin.specs.contracts.week.Ran as A
-use Rattle.basin.proofs.week.Ran.TheLaws as A'
-use Rattle.week.specs.declared.Going.{Going}
-use Rattle.week.specs.contracts.Going as G
-use Rattle.week.proofs.Going.TheLaws as G'
 
 -- an element of an array is of its type
 each_at : (R : RattleType) (xs : List R.Denot) (us : List Val) → shadow (each R.Denot R.own_val xs us)
@@ -57,9 +52,3 @@ module _ (b : Basin) (vs : List Val) (is : Is B.the_row b vs) where
 
   pub basin_shaped : Shaped b
   basin_shaped = record { subs_length = subs_long; reaches_length = reaches_long; places = λ i l. waiting_long i (dec_le (length b.subs) i) }
-
--- a week on its way holds a basin
-pub going_shaped : (g : Going) (vs : List Val) → Is G.the_row g vs → Shaped g.ran.basin
-going_shaped g vs is =
-    let ran = (LL.owed G.the_type G'.the_laws g vs is).1.1.1.0 in
-    basin_shaped g.ran.basin _ (LL.owed A.the_type A'.the_laws g.ran _ ran).1.1.0

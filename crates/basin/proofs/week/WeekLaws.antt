@@ -28,7 +28,7 @@ use Rattle.basin.specs.Week.{most_steps, fits, calls_of, week_calls, up_to_refus
 use Rattle.basin.specs.Workers.{Weathers, Shaped}
 use Rattle.basin.proofs.limits.LimitsLaws.{BasinIn, basin_limits}
 use Rattle.basin.proofs.step.JudgedLaws.{call_inside, answers}
-use Rattle.basin.proofs.step.StepLaws.{reading_weathers, step_balance}
+use Rattle.basin.proofs.step.StepLaws.{reading_weathers, step_balance, after_shaped}
 
 -- ---- one accepted step of a basin that 9 allows
 
@@ -62,6 +62,7 @@ pub record Reported (b : Basin) (o : Outcome) : Type 0 where
   pub rain_most : o.report.rain ≤ 2 ^ 38
   pub estimated_few : o.report.estimated ≤ 32
   pub balance : content_of o.basin + (o.report.evapotranspiration + o.report.outlet) ≡ content_of b + o.report.rain
+  pub shaped : Shaped o.basin
 
 pub reported : (b : Basin) (lines : List Line) (count : ℕ) → Shaped b → {o : Outcome} → o ≡ step_call b lines count → o.number ≡ 0 → Reported b o
 unfolding taken
@@ -74,6 +75,7 @@ reported b lines count sh {o} e z =
       rain_most = rain_volume_most b (reading lines count b.n).weather h k;
       estimated_few = omega (arith, estimated_most lines count b.n, h.n_most);
       balance = omega (arith, step_balance b (reading lines count b.n).weather h sh k);
+      shaped = after_shaped b (reading lines count b.n).weather h sh k;
     })
 
 -- ---- one more step

@@ -1,21 +1,23 @@
 -- `rains::rain_for` meets its contract. Assumes nothing.
-use mathlib.Core.Path.{refl}
-use native.Mathlib.Omega.{arith}
+use Rattle.std.proofs.Common.{◌≡◌, refl, ap, Err, rules, arith}
+use Rattle.common.proofs.Refusals.{number_some}
+use Rattle.subbasin.specs.Yields.{as_answer}
 use Rattle.rains.proofs.QuestionLaws.{question_refused, number_in, question_answered}
 use Rattle.rains.proofs.rain_for.Goals as goal
 
-pub returns-then-given-ne0 : goal.returns-then-given-ne0
-returns-then-given-ne0 c = question_refused _ _ _ c.judge-given.ensures _ c.if-given-ne0.true c.refuse.ensures
+pub returns-in_err-depth : goal.returns-in_err-depth
+returns-in_err-depth c =
+    let e : c.from_residual.result ≡ Err c.in_err-depth.field-0.0 = search rules in
+    question_refused _ _ _ c.in_err-depth.ensures _ (λ z. omega (arith, z, number_some c.in_err-depth.field-0.0)) (ap as_answer e)
 
-pub overflow_sub-s : goal.overflow_sub-s
-overflow_sub-s c = (number_in _ _ _ c.judge-given.ensures c.if-given-ne0.false).0
+pub overflow_sub-number : goal.overflow_sub-number
+overflow_sub-number c = (number_in _ _ _ c.in_ok-depth.ensures refl).0
 
-pub offset_bounds-subs-number : goal.offset_bounds-subs-number
-offset_bounds-subs-number c = omega (arith, number_in _ _ _ c.judge-given.ensures c.if-given-ne0.false)
+pub offset_bounds-b-number : goal.offset_bounds-b-number
+offset_bounds-b-number c = omega (arith, number_in _ _ _ c.in_ok-depth.ensures refl)
 
-pub bounds-subs-number : goal.bounds-subs-number
-bounds-subs-number c = omega (arith, number_in _ _ _ c.judge-given.ensures c.if-given-ne0.false)
+pub bounds-b-number : goal.bounds-b-number
+bounds-b-number c = omega (arith, number_in _ _ _ c.in_ok-depth.ensures refl)
 
 pub returns : goal.returns
-returns c =
-    question_answered _ _ _ c.judge-given.ensures _ _ c.if-given-ne0.false refl c.rain_for.ensures
+returns c = question_answered _ _ _ c.in_ok-depth.ensures _ _ refl refl c.rain_for.ensures

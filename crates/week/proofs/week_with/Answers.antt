@@ -1,35 +1,42 @@
-use Rattle.std.proofs.Common.{sym, ap, ◌∙◌, subst, arith}
-use Rattle.week.specs.Workers.{gone_on}
-use Rattle.week.proofs.Shape.{basin_shaped, going_shaped}
-use Rattle.week.proofs.GoingLaws.{Along, begun_along, along_on, along_room, along_inside, along_less, along_end}
+use Rattle.std.proofs.Common.{ap, ◌∙◌, arith}
+use Rattle.basin.proofs.week.WeekLaws.{count_in}
+use Rattle.common.proofs.Refusals.{number_some}
+use Rattle.std.specs.declared.slice.ChunksExact.{ChunksExact}
+use Rattle.forcing.specs.declared.list.Line.{Line}
+use Rattle.week.proofs.GoingLaws.{going_begun, going_few, going_count, going_fits, going_on, going_stopped, going_end, going_refused}
 use Rattle.week.proofs.week_with.Goals as goal
 
-pub loop-g-init : goal.loop-g-init
-loop-g-init c =
-    record {
-      along = subst (Along c.args.b c.args.lines.now) (sym c.begin-g.ensures) (begun_along _ _ (basin_shaped _ _ c.well_formed.1.0));
-      shaped = going_shaped _ _ c.begin-g.type_inv;
-    }
+pub returns-in-Err : goal.returns-in-Err
+returns-in-Err c = going_refused c.in-Err.ensures.refuses c.into.ensures
 
-pub lines_of-here-requires : goal.lines_of-here-requires
-lines_of-here-requires c = along_inside _ _ _ c.loop-g.invariant.along c.loop-g-test.true
+pub chunks_exact-step-items-requires : goal.chunks_exact-step-items-requires
+chunks_exact-step-items-requires c = (count_in _ c.in_default.ensures.fits.allowed).0
 
-pub go_on-g-requires : goal.go_on-g-requires
-go_on-g-requires c = along_room _ _ _ c.loop-g.invariant.along c.loop-g-test.true c.loop-g.invariant.shaped c.well_formed.1.1.0.0
+pub loop-step-init : goal.loop-step-init
+loop-step-init c =
+    let e = c.into_iter-step-iterator.ensures.into_iter_gives in
+    let n = ap (λ (i : ChunksExact Line). i.size) e ∙ c.chunks_exact-step-items.ensures.size in
+    let rest = ap (λ (i : ChunksExact Line). i.rest.now) e ∙ c.chunks_exact-step-items.ensures.rest in
+    (omega (arith, n, count_in _ c.in_default.ensures.fits.allowed), tt, going_begun c.in_default.ensures.fits n rest)
 
-pub loop-g-smaller : goal.loop-g-smaller
-loop-g-smaller c = rw c.go_on-g.ensures (along_less _ _ c.loop-g-test.true)
+pub lines_of-requires : goal.lines_of-requires
+lines_of-requires c = going_few c.loop-step.invariant.2 _ _ c.in-Some.ensures.steps.1
 
-pub loop-g-preserved : goal.loop-g-preserved
-loop-g-preserved c =
-    record {
-      along =
-          subst (Along c.args.b c.args.lines.now) (sym (c.go_on-g.ensures ∙ ap (gone_on _) c.lines_of-here.ensures))
-          (along_on _ _ _ c.loop-g.invariant.along c.loop-g-test.true c.loop-g.invariant.shaped);
-      shaped = going_shaped _ _ c.go_on-g.type_inv;
-    }
+pub overflow_add-week : goal.overflow_add-week
+overflow_add-week c = omega (arith, going_count c.loop-step.invariant.2 _ _ c.in-Some.ensures.steps.1)
+
+pub join-week-requires : goal.join-week-requires
+join-week-requires c = going_fits c.loop-step.invariant.2 _ _ c.in-Some.ensures.steps.1 c.lines_of.ensures c.in-Ok.ensures.answers
+
+pub loop-step-preserved : goal.loop-step-preserved
+loop-step-preserved c =
+    let q = c.in-Some.ensures.steps in
+    (omega (arith, q.0, c.loop-step.invariant.0), tt, going_on c.loop-step.invariant.2 _ _ q.1 c.lines_of.ensures c.in-Ok.ensures.answers c.join-week.ensures q.0)
+
+pub returns-in-Err-step_with : goal.returns-in-Err-step_with
+returns-in-Err-step_with c =
+    going_stopped c.loop-step.invariant.2 _ _ c.in-Some.ensures.steps.1 c.lines_of.ensures _ c.in-Err-step_with.ensures.answers
+    (c.in-Err-step_with.ensures.judges.refused (λ z. omega (arith, z, number_some c.in-Err-step_with.refused.why))).unchanged
 
 pub returns : goal.returns
-returns c =
-    let end = along_end _ _ _ c.loop-g.invariant.along (omega (arith, c.loop-g-test.false)) in
-    record { answers = end.0; judges = end.1 }
+returns c = going_end c.loop-step.invariant.2 c.in-None.ensures.steps.1.0

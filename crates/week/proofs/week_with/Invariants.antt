@@ -1,10 +1,9 @@
--- `week::week_with` meets its contract: before each turn the week on its way has `Along`, the law of the week. Assumes nothing.
-use Rattle.basin.specs.Workers.{Shaped}
-use Rattle.week.proofs.GoingLaws.{Along}
+-- `week::week_with` meets its contract: before each turn the week on its way has `Going`. Assumes nothing.
+use Rattle.week.proofs.GoingLaws.{Going}
 use Rattle.week.proofs.week_with.Given as goal
 
-abbrev pub invariant-loop-g : goal.invariant-loop-g
-invariant-loop-g l = record { along : Along l.fn.b l.lines l.g; shaped : Shaped l.g.ran.basin }
-
-abbrev pub decreases-loop-g : goal.decreases-loop-g
-decreases-loop-g l = l.g.left
+abbrev pub invariant-loop-step : goal.invariant-loop-step
+invariant-loop-step l =
+    (goal.iterator-loop-step).can_next l.step-iterator ×
+    (goal.iterator-loop-step).is_finite l.step-iterator ×
+    Going l.fn.b l.lines l.n l.step-iterator.size l.step-iterator.rest.now l.b l.week
