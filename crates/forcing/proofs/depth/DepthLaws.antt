@@ -24,8 +24,7 @@ pub number_test : (limit : ℕ) (x : Float) → eqb (number_of limit x) 0 ≡ fr
 unfolding number_of unfit above_limit numerator denominator from_zero_to
 number_test limit nan = refl
 number_test limit (inf s) = refl
-number_test limit (fin s m e) =
-    grind (arith, nat_tests)
+number_test limit (fin s m e) = grind (arith, nat_tests)
 
 -- 1000 times a value up to the limit, to nearest, is at most 1000 times the limit
 pub depth_le : (limit : ℕ) (x : Float) → from_zero_to limit x ≡ true → depth_of x ≤ 1000 * limit
@@ -43,12 +42,12 @@ depth_le limit (fin s m e) h =
 
 -- ---- the parts of an answer
 
-answer_number : {p : Depth} (number depth : ℕ) → p ≡ answer_by number depth → p.number ≡ number
+pub answer_number : {p : Depth} (number depth : ℕ) → p ≡ answer_by number depth → p.number ≡ number
 unfolding answer_by
 answer_number zero depth e = ap (λ (p : Depth). p.number) e
 answer_number (suc number) depth e = ap (λ (p : Depth). p.number) e ∙ rw (eqb-suc-zero number)
 
-answer_depth : {p : Depth} (number depth : ℕ) → p ≡ answer_by number depth → p.number ≡ 0 → p.depth ≡ depth
+pub answer_depth : {p : Depth} (number depth : ℕ) → p ≡ answer_by number depth → p.number ≡ 0 → p.depth ≡ depth
 unfolding answer_by
 answer_depth number depth e h = ap (λ (p : Depth). p.depth) e ∙ rw (sym (answer_number number depth e) ∙ h)
 

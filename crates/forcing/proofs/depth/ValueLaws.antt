@@ -34,7 +34,7 @@ module _ (x d a c : ℕ) (dp : 0 < d) (cp : 0 < c) (e : x * c ≡ a * d) where
   unfolding nearest
   nearest_same = div_same (2 * (1000 * x) + d) (2 * d) (2 * (1000 * a) + c) (2 * c) (omega arith) (omega arith) (omega (arith, e))
 
-  pub fraction_same : (limit : ℕ) → of_fraction limit x d ≡ of_fraction limit a c
+  fraction_same : (limit : ℕ) → of_fraction limit x d ≡ of_fraction limit a c
   fraction_same limit = rw (above_same limit, nearest_same)
 
 -- ---- a number and its fraction
