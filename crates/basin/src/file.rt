@@ -1,6 +1,6 @@
 // The basin file: document 01, "The basin file", and refusals 1 to 4 of "Who sent it".
 ghost use Rattle.std.specs.Prelude.{◌≡◌, ◌↔◌, ◌≤◌, ◌<◌, ◌+◌, ◌*◌, ℕ, suc, List, length, unwrap_or, IsOk, IfOk, IfSome, refl};
-ghost use Rattle.std.proofs.Common.{arith};
+ghost use Rattle.std.proofs.Common.{lit≤};
 ghost use Rattle.common.specs.Limits.{Word, first_out};
 ghost use Rattle.subbasin.specs.Record.{word_count, words, most_start};
 ghost use Rattle.basin.specs.Reach.{reach_word_count, reach_words};
@@ -91,7 +91,7 @@ impl Record for SubBasin {
 
     ghost sized = { λ m j s. refl };
 
-    ghost few = { Prim.omega arith };
+    ghost few = { lit≤ tt };
 
     const WORDS: u64 = record::WORDS as u64;
 
@@ -118,7 +118,7 @@ impl Record for Reach {
 
     ghost sized = { λ m j r. refl };
 
-    ghost few = { Prim.omega arith };
+    ghost few = { lit≤ tt };
 
     const WORDS: u64 = reach::WORDS;
 
