@@ -1,14 +1,17 @@
 -- What the private functions require and answer: no part of document 01.
-use Rattle.std.specs.Prelude.{◌≡◌, Bool, true, false, ◌&&◌, Result, Ok, Err, List, [], ℕ, ◌+◌, ◌*◌, ◌^◌, ◌≤◌, ◌<◌, length, get_or}
+use Rattle.std.specs.Prelude.{◌≡◌, Bool, true, false, ◌&&◌, Result, Ok, Err, List, [], ◌++◌, ℕ, zero, suc, ◌+◌, ◌*◌, ◌^◌, ◌≤◌, ◌<◌, length, get_or}
 use Rattle.common.specs.declared.weather.Weather.{Weather}
 use Rattle.common.specs.declared.refusal.Refusal.{Refusal}
-use Rattle.common.specs.declared.refusal.Refusal.TheVariants.{BadBasin}
+use Rattle.common.specs.declared.refusal.Refusal.TheVariants.{BadBasin, Word as BadWord}
+use Rattle.common.specs.declared.refusal.Refused.{Refused}
+use Rattle.common.specs.Limits.{Word, first_out}
+use Rattle.common.specs.Bytes.{word_at}
 use Rattle.common.specs.Shares.{one}
 use Rattle.common.specs.Weather.{calm, WeatherIn}
 use Rattle.common.specs.Amounts.{sum}
-use Rattle.common.specs.Loops.{filled, sum_of}
+use Rattle.common.specs.Loops.{filled, table, sum_of}
 use Rattle.subbasin.specs.declared.record.SubBasin.{SubBasin}
-use Rattle.subbasin.specs.Record.{most_stored, record_in}
+use Rattle.subbasin.specs.Record.{word_count, of_words, most_stored, record_in}
 use Rattle.subbasin.specs.Content.{water}
 use Rattle.subbasin.specs.Step.{stepped}
 use Rattle.basin.specs.declared.reach.Reach.{Reach}
@@ -25,6 +28,25 @@ use Rattle.basin.specs.Step.{step_of, sent_by, rain_volume, loss_volume}
 pub record Weathers (ws : List Weather) : Type 0 where
   pub long : length ws ≡ 32
   pub each : (i : ℕ) → WeatherIn (get_or ws i calm)
+
+-- ---- records that are read from a file
+
+-- a sub-basin and a reach from their first word on
+abbrev pub sub_stored : List ℕ → ℕ → SubBasin
+sub_stored f start = of_words (table (λ k. word_at f (start + k)) 0 word_count word_count)
+
+abbrev pub reach_stored : List ℕ → ℕ → Reach
+reach_stored f start = record { c0 = word_at f start; c1 = word_at f (start + 1); next = word_at f (start + 2); content = 0 }
+
+-- the words of the parts i, i + 1, .., so many as are left
+unfoldable pub parts : (ℕ → List Word) → ℕ → ℕ → List Word
+parts part i zero = []
+parts part i (suc left) = part i ++ parts part (suc i) left
+
+-- n records of `size` words, from word `start` on: either all are inside their ranges, and in their places, or the first word that is not is told
+abbrev pub ReadOf : {R : Type 0} → ℕ → ℕ → (ℕ → R) → (ℕ → List Word) → ℕ → List R → List R → Result (Unit {0}) Refused → Type 0
+ReadOf start size x part n before after (Ok u) = (first_out (parts part 0 n) ≡ size * n) × (after ≡ filled x n before)
+ReadOf start size x part n before after (Err w) = (first_out (parts part 0 n) ≡ size * n → ⊥) × (w ≡ record { why = BadWord; place = start + first_out (parts part 0 n) })
 
 -- ---- a sub-basin's turn
 

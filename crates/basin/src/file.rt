@@ -1,12 +1,12 @@
 // The basin file: document 01, "The basin file", and refusals 1 to 4 of "Who sent it".
-ghost use Rattle.std.specs.Prelude.{◌≡◌, ◌↔◌, ◌≤◌, ◌<◌, IsOk, IfOk};
-ghost use Rattle.common.specs.Limits.{first_out};
-ghost use Rattle.common.specs.Loops.{table};
-ghost use Rattle.subbasin.specs.Record.{blank_sub};
-ghost use Rattle.basin.specs.Reach.{blank_reach};
-ghost use Rattle.basin.specs.File.{file_sub, file_reach, sub_words, reaches_words, all_words, as_loaded, load_call};
-ghost use Rattle.basin.specs.File.{FileIn, Holds};
+ghost use Rattle.std.specs.Prelude.{◌≡◌, ◌↔◌, ◌≤◌, ◌<◌, ◌+◌, ◌*◌, ℕ, suc, List, length, unwrap_or, IsOk, IfOk, IfSome, refl};
+ghost use Rattle.std.proofs.Common.{lit≤};
+ghost use Rattle.common.specs.Limits.{Word, first_out};
+ghost use Rattle.subbasin.specs.Record.{word_count, words, most_start};
+ghost use Rattle.basin.specs.Reach.{reach_word_count, reach_words};
+ghost use Rattle.basin.specs.File.{as_loaded, load_call, FileIn, Holds};
 ghost use Rattle.basin.specs.Account.{Demand3};
+ghost use Rattle.basin.specs.Workers.{sub_stored, reach_stored, ReadOf};
 
 use crate::reach;
 use crate::reach::Reach;
@@ -15,11 +15,6 @@ use common::bytes::word;
 use common::refusal::{Refusal, Refused};
 use subbasin::record;
 use subbasin::record::{MOST_START, SubBasin};
-
-// The words of a sub-basin and of a reach.
-const SUB_WORDS: u64 = record::WORDS as u64;
-
-const REACH_WORDS: u64 = reach::WORDS;
 
 // No file has fewer bytes.
 const LEAST_BYTES: u64 = 8;
@@ -47,138 +42,121 @@ pub fn load(bytes: &[u8]) -> Result<Basin, Refused>
             place: 1,
         });
     }
-    let words = SUB_WORDS * n + REACH_WORDS * m;
-    if size != 4 * (2 + words) {
+    let after_subs = 2 + SubBasin::WORDS * n;
+    if size != 4 * (after_subs + Reach::WORDS * m) {
         return Err(Refusal::Length.into());
     }
-    let out = first_out(bytes, n, m);
-    if out != words {
-        return Err(Refused {
-            why: Refusal::Word,
-            place: 2 + out,
-        });
-    }
+    let mut subs = [SubBasin::from([0; record::WORDS]); 32];
+    read_all(bytes, 2, n, m, &mut subs)?;
+    let mut reaches = [Reach::default(); 31];
+    read_all(bytes, after_subs, m, m, &mut reaches)?;
     Ok(Basin {
         n,
         m,
-        subs: subs_of(bytes, n),
-        reaches: reaches_of(bytes, n, m),
+        subs,
+        reaches,
     })
 }
 
-// The number of the first word outside its range, counted from 0 after N and M, and how many words there are where none is.
-fn first_out(bytes: &[u8], n: u64, m: u64) -> u64
-    requires { (n ≤ 32) × (m ≤ 31) }
-    ensures { result ≡ first_out (all_words bytes.now n m) }
-{
-    let out = first_out_sub(bytes, n, m);
-    if out != SUB_WORDS * n {
-        return out;
-    }
-    out + first_out_reach(bytes, n, m)
+// What stands in the file as so many words: a record, read from its first word on, and its first word outside its range. `number` is its own
+// number, from 1.
+trait Record: Copy {
+    ghost WORDS: { ℕ };
+
+    ghost stored: { List ℕ → ℕ → Self };
+
+    ghost words: { ℕ → ℕ → Self → List Word };
+
+    const WORDS: u64;
+
+    fn read(bytes: &[u8], start: u64) -> Self
+        requires { start ≤ 2000 }
+        ensures { result ≡ stored bytes.now start };
+
+    fn first_out(&self, number: u64, m: u64) -> Option<usize>
+        ensures numbered { unwrap_or result WORDS ≡ first_out (words m number self.now) }
+        ensures a_word { IfSome result (λ k. k < WORDS) };
+
+    ghost sized: { (m j : ℕ) (r : Self) → length (words m j r) ≡ WORDS };
+
+    ghost few: { WORDS ≤ 23 };
 }
 
-// The same among the words of the sub-basins.
-fn first_out_sub(bytes: &[u8], n: u64, m: u64) -> u64
-    requires { n ≤ 32 }
-    ensures { result ≡ first_out (sub_words bytes.now m 0 n) }
-{
-    let mut i: u64 = 0;
-    while i < n {
-        let s = sub_at(bytes, i);
-        if let Some(k) = s.first_outside(m, MOST_START) {
-            return SUB_WORDS * i + k as u64;
+impl Record for SubBasin {
+    ghost WORDS = { word_count };
+
+    ghost stored = { sub_stored };
+
+    ghost words = { λ m j s. words m most_start s };
+
+    ghost sized = { λ m j s. refl };
+
+    ghost few = { lit≤ tt };
+
+    const WORDS: u64 = record::WORDS as u64;
+
+    fn read(bytes: &[u8], start: u64) -> SubBasin {
+        let mut v = [0; record::WORDS];
+        for k in 0..record::WORDS {
+            v[k] = word(bytes, start + k as u64);
         }
-        i += 1;
+        v.into()
     }
-    SUB_WORDS * n
+
+    fn first_out(&self, _number: u64, m: u64) -> Option<usize> {
+        self.first_outside(m, MOST_START)
+    }
 }
 
-// And among those of the reaches.
-fn first_out_reach(bytes: &[u8], n: u64, m: u64) -> u64
-    requires { (n ≤ 32) × (m ≤ 31) }
-    ensures { result ≡ first_out (reaches_words bytes.now n m 0 m) }
-{
-    let mut j: u64 = 0;
-    while j < m {
-        let r = reach_at(bytes, n, j);
-        if let Some(k) = r.first_outside(j + 1, m) {
-            return REACH_WORDS * j + k;
+// A reach starts empty.
+impl Record for Reach {
+    ghost WORDS = { reach_word_count };
+
+    ghost stored = { reach_stored };
+
+    ghost words = { λ m j r. reach_words m j r };
+
+    ghost sized = { λ m j r. refl };
+
+    ghost few = { lit≤ tt };
+
+    const WORDS: u64 = reach::WORDS;
+
+    fn read(bytes: &[u8], start: u64) -> Reach {
+        Reach {
+            c0: word(bytes, start),
+            c1: word(bytes, start + 1),
+            next: word(bytes, start + 2),
+            content: 0,
         }
-        j += 1;
     }
-    REACH_WORDS * m
-}
 
-// The records of the first n sub-basins, the others zero.
-fn subs_of(bytes: &[u8], n: u64) -> [SubBasin; 32]
-    requires { n ≤ 32 }
-    ensures { result ≡ table (λ i. file_sub bytes.now i) blank_sub n 32 }
-{
-    let blank = SubBasin::from([0; record::WORDS]);
-    let mut subs = [blank; 32];
-    let mut i: u64 = 0;
-    while i < n {
-        let s = sub_at(bytes, i);
-        subs[i as usize] = s;
-        i += 1;
-    }
-    subs
-}
-
-// The first m reaches, the others zero.
-fn reaches_of(bytes: &[u8], n: u64, m: u64) -> [Reach; 31]
-    requires { (n ≤ 32) × (m ≤ 31) }
-    ensures { result ≡ table (λ j. file_reach bytes.now n j) blank_reach m 31 }
-{
-    let blank = blank_reach();
-    let mut reaches = [blank; 31];
-    let mut j: u64 = 0;
-    while j < m {
-        let r = reach_at(bytes, n, j);
-        reaches[j as usize] = r;
-        j += 1;
-    }
-    reaches
-}
-
-// The record of sub-basin i, counted from 0.
-fn sub_at(bytes: &[u8], i: u64) -> SubBasin
-    requires { i < 32 }
-    ensures { result ≡ file_sub bytes.now i }
-{
-    let start = 2 + SUB_WORDS * i;
-    let mut v = [0u64; record::WORDS];
-    let mut k: u64 = 0;
-    while k < SUB_WORDS {
-        let x = word(bytes, start + k);
-        v[k as usize] = x;
-        k += 1;
-    }
-    v.into()
-}
-
-// Reach j, counted from 0, after n sub-basins. It starts empty.
-fn reach_at(bytes: &[u8], n: u64, j: u64) -> Reach
-    requires { (n ≤ 32) × (j < 31) }
-    ensures { result ≡ file_reach bytes.now n j }
-{
-    let start = 2 + SUB_WORDS * n + REACH_WORDS * j;
-    Reach {
-        c0: word(bytes, start),
-        c1: word(bytes, start + 1),
-        next: word(bytes, start + 2),
-        content: 0,
+    fn first_out(&self, number: u64, m: u64) -> Option<usize> {
+        self.first_outside(number, m)
     }
 }
 
-fn blank_reach() -> Reach
-    ensures { result ≡ blank_reach }
+// Reads n records, one after the other, from word `start` on, up to the first that has a word outside its range.
+fn read_all<R: Record>(
+    bytes: &[u8],
+    start: u64,
+    n: u64,
+    m: u64,
+    records: &mut [R],
+) -> Result<(), Refused>
+    requires { (n ≤ 32) × (n ≤ length records.old) × (start ≤ 1000) }
+    ensures { ReadOf start R.WORDS (λ i. R.stored bytes.now (start + R.WORDS * i)) (λ i. R.words m (suc i) (R.stored bytes.now (start + R.WORDS * i))) n records.old records.new result }
 {
-    Reach {
-        c0: 0,
-        c1: 0,
-        next: 0,
-        content: 0,
+    for i in 0..n {
+        let at = start + R::WORDS * i;
+        let record = R::read(bytes, at);
+        if let Some(k) = record.first_out(i + 1, m) {
+            return Err(Refused {
+                why: Refusal::Word,
+                place: at + k as u64,
+            });
+        }
+        records[i as usize] = record;
     }
+    Ok(())
 }

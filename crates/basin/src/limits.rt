@@ -1,6 +1,6 @@
 // 9's limits of a basin, part by part: document 01, "Who sent it".
 ghost use Rattle.std.specs.Prelude.{◌≡◌, ◌≤◌};
-ghost use Rattle.basin.specs.Limits.{counts_in, subs_used, subs_blank, reaches_used, reaches_blank, others_in};
+ghost use Rattle.basin.specs.Limits.{counts_in, subs_used, reaches_used, others_in};
 ghost use Rattle.basin.specs.Workers.{records_in};
 
 use crate::reach::Reach;
@@ -19,7 +19,9 @@ fn records_allowed(b: &Basin) -> bool
     requires { (b.now.n ≤ 32) × (b.now.m ≤ 31) }
     ensures { result ≡ records_in b.now }
 {
-    subs_blank(&b.subs, b.n) && reaches_used(&b.reaches, b.m) && reaches_blank(&b.reaches, b.m)
+    b.subs[b.n as usize..].iter().all(|s| s.is_blank())
+        && reaches_used(&b.reaches, b.m)
+        && b.reaches[b.m as usize..].iter().all(|r| r.is_blank())
 }
 
 fn counts_allowed(n: u64, m: u64) -> bool
@@ -36,13 +38,6 @@ pub fn subs_used(subs: &[SubBasin; 32], n: u64, m: u64) -> bool
     subs[..n as usize].iter().all(|s| s.allowed(m))
 }
 
-fn subs_blank(subs: &[SubBasin; 32], n: u64) -> bool
-    requires { n ≤ 32 }
-    ensures { result ≡ subs_blank n subs.now }
-{
-    subs[n as usize..].iter().all(|s| s.is_blank())
-}
-
 fn reaches_used(reaches: &[Reach; 31], m: u64) -> bool
     requires { m ≤ 31 }
     ensures { result ≡ reaches_used m reaches.now }
@@ -53,11 +48,4 @@ fn reaches_used(reaches: &[Reach; 31], m: u64) -> bool
         }
     }
     true
-}
-
-fn reaches_blank(reaches: &[Reach; 31], m: u64) -> bool
-    requires { m ≤ 31 }
-    ensures { result ≡ reaches_blank m reaches.now }
-{
-    reaches[m as usize..].iter().all(|r| r.is_blank())
 }

@@ -22,7 +22,7 @@ pub const NAMES: [u8; 15] = *b"c0   c1   next ";
 
 impl Reach {
     // The number of its first word outside its range, if there is one; j is the reach's own number, from 1.
-    pub fn first_outside(&self, j: u64, m: u64) -> Option<u64>
+    pub fn first_outside(&self, j: u64, m: u64) -> Option<usize>
         ensures answers { number_of result ≡ first_out (reach_words m j self.now) }
         ensures one_of_its_words { IfSome result (λ k. k < reach_word_count) }
     {
