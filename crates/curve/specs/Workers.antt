@@ -1,12 +1,29 @@
 -- What the private functions of this crate leave.
-use Rattle.std.specs.Prelude.{◌≡◌, List, ℕ, ◌+◌, ◌^◌, ◌≤◌, ◌<◌}
-use Rattle.curve.specs.Capacity.{root, printed_roots}
+use Rattle.std.specs.Prelude.{◌≡◌, List, Result, Ok, Err, ℕ, ◌+◌, ◌^◌, ◌≤◌, ◌<◌}
+use Rattle.common.specs.Shares.{one}
+use Rattle.common.specs.declared.refusal.Refusal.{Refusal}
+use Rattle.common.specs.declared.refusal.Refusal.TheVariants.{OutOfRange}
+use Rattle.curve.specs.Capacity.{root, printed_roots, least_e, most_e, most_c, most_m}
 
 -- where a table leads: by the printed one to the root of t or to one more
 pub record Leads (roots : List ℕ) (t r : ℕ) : Type 0 where
   pub most : r < 2 ^ 32
   pub root_or_next : roots ≡ printed_roots → (root t ≤ r) × (r ≤ root t + 1)
 
+-- the limits of a curve
+pub record CurveIn (c m e : ℕ) : Type 0 where
+  pub c_least : 1 ≤ c
+  pub c_most : c ≤ most_c
+  pub m_least : 1 ≤ m
+  pub m_most : m ≤ most_m
+  pub e_least : least_e ≤ e
+  pub e_most : e ≤ most_e
+
 -- logarithms are in parts of 2^24
 abbrev pub log : ℕ
 log = 16777216
+
+-- a number taken as a share, or refused
+abbrev pub IsShare : ℕ → Result ℕ Refusal → Type 0
+IsShare n (Ok t) = (t ≡ n) × (n ≤ one)
+IsShare n (Err why) = (why ≡ OutOfRange) × (one < n)

@@ -3,9 +3,6 @@ use native.Mathlib.Omega.{arith}
 use Rattle.curve.proofs.capacity.RootLaws.{root_half}
 use Rattle.curve.proofs.roots.lead.Goals as goal
 
-pub returns-then-t-lt-ENTRIES : goal.returns-then-t-lt-ENTRIES
-returns-then-t-lt-ENTRIES c = record { most = omega arith; root_or_next = λ e. omega (arith, c.entry.ensures.0 e) }
-
 pub returns-then-t-lt-NEAR : goal.returns-then-t-lt-NEAR
 returns-then-t-lt-NEAR c =
     let near = c.near.ensures in
