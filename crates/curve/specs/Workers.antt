@@ -1,14 +1,19 @@
 -- What the private functions of this crate leave.
-use Rattle.std.specs.Prelude.{◌≡◌, List, Result, Ok, Err, ℕ, ◌+◌, ◌^◌, ◌≤◌, ◌<◌}
+use Rattle.std.specs.Prelude.{◌≡◌, List, Option, Some, None, Result, Ok, Err, ℕ, ◌+◌, ◌^◌, ◌≤◌, ◌<◌}
 use Rattle.common.specs.Shares.{one}
 use Rattle.common.specs.declared.refusal.Refusal.{Refusal}
 use Rattle.common.specs.declared.refusal.Refusal.TheVariants.{OutOfRange}
 use Rattle.curve.specs.Capacity.{root, printed_roots, least_e, most_e, most_c, most_m}
 
--- where a table leads: by the printed one to the root of t or to one more
-pub record Leads (roots : List ℕ) (t r : ℕ) : Type 0 where
-  pub most : r < 2 ^ 32
-  pub root_or_next : roots ≡ printed_roots → (root t ≤ r) × (r ≤ root t + 1)
+-- where a table leads, if anywhere: by the printed one to the root of t or to one more
+abbrev pub Leads : List ℕ → ℕ → Option ℕ → Type 0
+Leads roots t (Some r) = (r + 1 < 2 ^ 32) × (roots ≡ printed_roots → (root t ≤ r) × (r ≤ root t + 1))
+Leads roots t None = ¬ (roots ≡ printed_roots)
+
+-- an entry of a table, if it is one that leads: of the printed one the root of its place
+abbrev pub Enters : List ℕ → ℕ → Option ℕ → Type 0
+Enters roots k (Some r) = (r < 8192) × (roots ≡ printed_roots → r ≡ root k)
+Enters roots k None = ¬ (roots ≡ printed_roots)
 
 -- the limits of a curve
 pub record CurveIn (c m e : ℕ) : Type 0 where

@@ -2,7 +2,7 @@
 ghost use Rattle.std.specs.Prelude.{◌≡◌, ◌≤◌, ◌<◌};
 ghost use Rattle.common.specs.Shares.{one};
 ghost use Rattle.curve.specs.Capacity.{root, printed_roots};
-ghost use Rattle.curve.specs.Workers.{Leads};
+ghost use Rattle.curve.specs.Workers.{Leads, Enters};
 
 use crate::share::Share;
 use crate::table::ROOTS;
@@ -32,8 +32,8 @@ const ENTRIES: u64 = 1024;
 // From here on the entry of t / 64 leads near enough.
 const NEAR: u64 = 4096;
 
-// An entry of the printed table is at most this.
-const MOST_ENTRY: u32 = 8191;
+// No entry of the printed table is above this.
+const MOST_ENTRY: u64 = 8191;
 
 // The printed table. A call that is lent none makes it anew.
 pub fn printed_roots() -> Roots
@@ -61,7 +61,7 @@ impl FindRoot for Printed {
             return t;
         }
         let roots = printed_roots();
-        let r = lead(&roots, t.parts);
+        let r = lead(&roots, t.parts).unwrap();
         if t.parts * ONE < r * r {
             return Share { parts: r - 1 };
         }
@@ -73,17 +73,18 @@ impl FindRoot for Printed {
 impl FindRoot for Roots {
     fn root_of(&self, t: Share) -> Share {
         if t.parts < ONE {
-            let n = t.parts * ONE;
-            let r = lead(self, t.parts);
-            if n < r * r {
-                let down = r - 1;
-                if down * down <= n {
-                    return Share { parts: down };
-                }
-            } else {
-                let up = r + 1;
-                if n < up * up {
-                    return Share { parts: r };
+            if let Some(r) = lead(self, t.parts) {
+                let n = t.parts * ONE;
+                if n < r * r {
+                    let down = r - 1;
+                    if down * down <= n {
+                        return Share { parts: down };
+                    }
+                } else {
+                    let up = r + 1;
+                    if n < up * up {
+                        return Share { parts: r };
+                    }
                 }
             }
         }
@@ -91,8 +92,8 @@ impl FindRoot for Roots {
     }
 }
 
-// Where a table leads.
-fn lead(roots: &Roots, t: u64) -> u64
+// Where a table leads, if anywhere.
+fn lead(roots: &Roots, t: u64) -> Option<u64>
     requires { t < one }
     ensures { Leads roots.now t result }
 {
@@ -100,24 +101,31 @@ fn lead(roots: &Roots, t: u64) -> u64
         return entry(roots, t);
     }
     if t < NEAR {
-        return near(roots, t * 4) / 2;
+        return Some(near(roots, t * 4)? / 2);
     }
     near(roots, t)
 }
 
 // Newton's step from eight times the entry of t / 64.
-fn near(roots: &Roots, t: u64) -> u64
+fn near(roots: &Roots, t: u64) -> Option<u64>
     requires { (4096 ≤ t) × (t < one) }
     ensures { Leads roots.now t result }
 {
-    let r = entry(roots, t / 64).max(1) * 8;
-    (r + t * ONE / r) / 2
+    let r = entry(roots, t / 64)? * 8;
+    if r == 0 {
+        return None;
+    }
+    Some((r + t * ONE / r) / 2)
 }
 
-// An entry, cut to what the printed table's are at most.
-fn entry(roots: &Roots, k: u64) -> u64
+// An entry, where it is not above those of the printed table.
+fn entry(roots: &Roots, k: u64) -> Option<u64>
     requires { k < 1024 }
-    ensures { (roots.now ≡ printed_roots → result ≡ root k) × (result < 8192) }
+    ensures { Enters roots.now k result }
 {
-    roots[k as usize].min(MOST_ENTRY) as u64
+    let e = roots[k as usize] as u64;
+    if MOST_ENTRY < e {
+        return None;
+    }
+    Some(e)
 }
