@@ -1,5 +1,5 @@
 // The capacity curve: document 01, "The capacity curve". Shares are in parts of 65,536, capacities in µm.
-ghost use Rattle.std.specs.Prelude.{◌≡◌, IfOk, IfErr, ◌+◌, ◌≤◌, ◌<◌};
+ghost use Rattle.std.specs.Prelude.{◌≡◌, ◌↔◌, IsTrue, ◌+◌, ◌≤◌, ◌<◌};
 ghost use Rattle.common.specs.Shares.{one};
 ghost use Rattle.curve.specs.Capacity.{held, held_at, least_share, ordinate};
 ghost use Rattle.curve.specs.Workers.{CurveIn};
@@ -56,11 +56,10 @@ impl Curve {
     pub fn held(self, roots: &Roots, a: u64) -> Result<u64, Refusal>
         ensures { as_answer result ≡ held_call self.c self.m self.e a }
     {
-        let inside = self.inside()?;
-        if self.m < a {
+        if !self.is_inside() || self.m < a {
             return Err(Refusal::OutOfRange);
         }
-        Ok(inside.held(roots, a))
+        Ok(Inside { curve: self }.held(roots, a))
     }
 
     // The greatest ordinate below which at most w is held.
@@ -68,22 +67,17 @@ impl Curve {
     pub fn ordinate(self, roots: &Roots, w: u64) -> Result<u64, Refusal>
         ensures { as_answer result ≡ ordinate_call self.c self.m self.e w }
     {
-        let inside = self.inside()?;
-        if self.c < w {
+        if !self.is_inside() || self.c < w {
             return Err(Refusal::OutOfRange);
         }
-        Ok(inside.ordinate(roots, w))
+        Ok(Inside { curve: self }.ordinate(roots, w))
     }
 
-    fn inside(self) -> Result<Inside, Refusal>
-        ensures ok { IfOk result (λ k. k.curve ≡ self) }
-        ensures err { IfErr result (λ why. (why ≡ Refusal.OutOfRange) × ¬ CurveIn self.c self.m self.e) }
+    // Whether c, m and e are inside their limits.
+    fn is_inside(self) -> bool
+        ensures { IsTrue result ↔ CurveIn self.c self.m self.e }
     {
-        if (1..=MOST_C).contains(&self.c) && (1..=MOST_M).contains(&self.m) && (LEAST_E..=MOST_E).contains(&self.e) {
-            Ok(Inside { curve: self })
-        } else {
-            Err(Refusal::OutOfRange)
-        }
+        (1..=MOST_C).contains(&self.c) && (1..=MOST_M).contains(&self.m) && (LEAST_E..=MOST_E).contains(&self.e)
     }
 }
 
