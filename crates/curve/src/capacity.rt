@@ -137,33 +137,21 @@ impl Inside {
         let mut step = 1;
         let t = loop {
             let far = (step + 1) / 2;
-            step = step * 2 % ONE;
+            step = (step * 2).min(ONE);
             if self.held_at(roots, Share { parts: at }) <= w {
                 if at - lo <= 1 {
                     break at;
                 }
                 hi = at;
-                at = between(lo, hi, hi.saturating_sub(far));
+                at = if far < hi - lo { hi - far } else { (lo + hi) / 2 };
             } else {
                 if hi - at <= 1 {
                     break hi;
                 }
                 lo = at;
-                at = between(lo, hi, lo + far);
+                at = if far < hi - lo { lo + far } else { (lo + hi) / 2 };
             }
         };
         t
-    }
-}
-
-// The share asked for where it lies between lo and hi, and else their middle.
-fn between(lo: u64, hi: u64, asked: u64) -> u64
-    requires { (lo + 1 < hi) × (hi ≤ one) }
-    ensures { (lo < result) × (result < hi) }
-{
-    if lo < asked && asked < hi {
-        asked
-    } else {
-        lo + (hi - lo) / 2
     }
 }

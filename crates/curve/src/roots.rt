@@ -73,8 +73,8 @@ impl FindRoot for Printed {
 impl FindRoot for Roots {
     fn root_of(&self, t: Share) -> Share {
         if t.parts < ONE {
+            let n = t.parts * ONE;
             if let Some(r) = lead(self, t.parts) {
-                let n = t.parts * ONE;
                 if n < r * r {
                     let down = r - 1;
                     if down * down <= n {

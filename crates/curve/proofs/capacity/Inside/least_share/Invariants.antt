@@ -7,7 +7,7 @@ use Rattle.curve.proofs.capacity.Inside.least_share.Given as goal
 
 abbrev pub invariant-loop-self : goal.invariant-loop-self
 invariant-loop-self l =
-    (l.lo < l.at) × (l.at < l.hi) × (l.hi ≤ one) × (l.step < one) × (l.w < held_at l.self.curve.c l.self.curve.e l.lo)
+    (l.lo < l.at) × (l.at < l.hi) × (l.hi ≤ one) × (0 < l.step) × (l.step ≤ one) × (l.w < held_at l.self.curve.c l.self.curve.e l.lo)
     × (held_at l.self.curve.c l.self.curve.e l.hi ≤ l.w)
 
 abbrev pub decreases-loop-self : goal.decreases-loop-self
