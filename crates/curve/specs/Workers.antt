@@ -3,6 +3,8 @@ use Rattle.std.specs.Prelude.{◌≡◌, List, Option, Some, None, Result, Ok, E
 use Rattle.common.specs.Shares.{one}
 use Rattle.common.specs.declared.refusal.Refusal.{Refusal}
 use Rattle.common.specs.declared.refusal.Refusal.TheVariants.{OutOfRange}
+use Rattle.curve.specs.declared.store.Store.{Store}
+use Rattle.curve.specs.Store.{most_inflow, most_content}
 use Rattle.curve.specs.Capacity.{root, printed_roots, least_e, most_e, most_c, most_m}
 
 -- where a table leads, if anywhere: by the printed one to the root of t or to one more
@@ -23,6 +25,13 @@ pub record CurveIn (c m e : ℕ) : Type 0 where
   pub m_most : m ≤ most_m
   pub e_least : least_e ≤ e
   pub e_most : e ≤ most_e
+
+-- the limits of the store call
+pub record StoreIn (s : Store) (i : ℕ) : Type 0 where
+  pub a_in : s.a ≤ one
+  pub g_in : s.g ≤ one
+  pub inflow_in : i ≤ most_inflow
+  pub content_in : s.content ≤ most_content
 
 -- logarithms are in parts of 2^24
 abbrev pub log : ℕ
