@@ -25,13 +25,7 @@ pub fn share_of(p: u64, e: u64) -> u64
     let turned = 16 * LOG / e;
     let factors = e / 16 - 1 + e / 8 % 2 + e / 4 % 2 + e / 2 % 2 + e % 2;
     let t = (antilog_of(scaled(log_of(p), turned)) + scaled(576 * factors, turned) + 96) / 512;
-    if t < 1 {
-        return 1;
-    }
-    if ONE <= t {
-        return ONE - 1;
-    }
-    t
+    t.clamp(1, ONE - 1)
 }
 
 // By how much the logarithm of p is below that of 65,536: the leading zeros of 16 bits, and -log2(1 - w / 2) for what is left, w from 0 to 1, by

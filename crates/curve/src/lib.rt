@@ -5,5 +5,6 @@ pub mod capacity;
 mod guesses;
 mod powers;
 mod roots;
+pub mod share;
 pub mod store;
 mod table;

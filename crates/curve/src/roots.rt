@@ -1,12 +1,30 @@
-// The second root: request 1 of document 02, "Roots out of a printed table".
+// The root, and the ways to find it: document 01, "The capacity curve", and request 1 of document 02, "Roots out of a printed table".
 ghost use Rattle.std.specs.Prelude.{◌≡◌, ◌≤◌, ◌<◌};
 ghost use Rattle.common.specs.Shares.{one};
 ghost use Rattle.curve.specs.Capacity.{root, printed_roots};
-ghost use Rattle.curve.specs.Workers.{Leads};
+ghost use Rattle.curve.specs.Workers.{Leads, Enters};
 
-use crate::capacity::Roots;
+use crate::share::Share;
 use crate::table::ROOTS;
 use common::shares::ONE;
+
+// A table of roots, to be lent: whatever stands in it, an answer is the same, and by the printed one it comes soonest.
+pub type Roots = [u32; 1024];
+
+// A way to find a root.
+pub trait FindRoot {
+    // The greatest r with r * r <= t * 65,536.
+    fn root_of(&self, t: Share) -> Share
+        ensures { result ≡ root t };
+}
+
+// By Newton's steps.
+#[derive(Clone, Copy)]
+pub struct Newton;
+
+// By the printed table, which is made anew for each root.
+#[derive(Clone, Copy)]
+pub struct Printed;
 
 // Below this the argument's own entry is the root.
 const ENTRIES: u64 = 1024;
@@ -14,54 +32,68 @@ const ENTRIES: u64 = 1024;
 // From here on the entry of t / 64 leads near enough.
 const NEAR: u64 = 4096;
 
-// The printed table.
-pub fn printed() -> Roots
+// No entry of the printed table is above this.
+const MOST_ENTRY: u64 = 8191;
+
+// The printed table. A call that is lent none makes it anew.
+pub fn printed_roots() -> Roots
     ensures { result ≡ printed_roots }
 {
     ROOTS
 }
 
-// The root of t by the printed table, which leads to it or to one more; 65,536 has no entry.
-pub fn root_of(t: u64) -> u64
-    requires { t ≤ one }
-    ensures { (result ≡ root t) × (result ≤ one) }
-{
-    if t == ONE {
-        return ONE;
+// The first guess is the mean of t and 65,536, and a guess whose square is too great goes down.
+impl FindRoot for Newton {
+    fn root_of(&self, t: Share) -> Share {
+        let n = t.parts * ONE;
+        let mut r = (ONE + t.parts) / 2;
+        while n < r * r {
+            r = (r + n / r) / 2;
+        }
+        Share { parts: r }
     }
-    let roots = printed();
-    let r = lead(&roots, t);
-    if t * ONE < r * r {
-        return r - 1;
-    }
-    r
 }
 
-// The same by a table that is lent. Where that misleads, which the squares tell, it is by the printed one.
-pub fn root_with(roots: &Roots, t: u64) -> u64
-    requires { t ≤ one }
-    ensures { (result ≡ root t) × (result ≤ one) }
-{
-    if t < ONE {
-        let n = t * ONE;
-        let r = lead(roots, t);
-        if n < r * r {
-            let down = r - 1;
-            if down * down <= n {
-                return down;
-            }
-        } else {
-            let up = r + 1;
-            if n < up * up {
-                return r;
+// The table leads to the root or to one more; 65,536 has no entry.
+impl FindRoot for Printed {
+    fn root_of(&self, t: Share) -> Share {
+        if t.parts == ONE {
+            return t;
+        }
+        let roots = printed_roots();
+        let r = lead(&roots, t.parts).unwrap();
+        if t.parts * ONE < r * r {
+            return Share { parts: r - 1 };
+        }
+        Share { parts: r }
+    }
+}
+
+// By a table that is lent. Where that misleads, which the squares tell, it is by the printed one.
+impl FindRoot for Roots {
+    fn root_of(&self, t: Share) -> Share {
+        if t.parts < ONE {
+            let n = t.parts * ONE;
+            if let Some(r) = lead(self, t.parts) {
+                if n < r * r {
+                    let down = r - 1;
+                    if down * down <= n {
+                        return Share { parts: down };
+                    }
+                } else {
+                    let up = r + 1;
+                    if n < up * up {
+                        return Share { parts: r };
+                    }
+                }
             }
         }
+        Printed.root_of(t)
     }
-    root_of(t)
 }
 
-// Where a table leads.
-fn lead(roots: &Roots, t: u64) -> u64
+// Where a table leads, if anywhere.
+fn lead(roots: &Roots, t: u64) -> Option<u64>
     requires { t < one }
     ensures { Leads roots.now t result }
 {
@@ -69,31 +101,31 @@ fn lead(roots: &Roots, t: u64) -> u64
         return entry(roots, t);
     }
     if t < NEAR {
-        return near(roots, t * 4) / 2;
+        return Some(near(roots, t * 4)? / 2);
     }
     near(roots, t)
 }
 
 // Newton's step from eight times the entry of t / 64.
-fn near(roots: &Roots, t: u64) -> u64
+fn near(roots: &Roots, t: u64) -> Option<u64>
     requires { (4096 ≤ t) × (t < one) }
     ensures { Leads roots.now t result }
 {
-    let r = entry(roots, t / 64) * 8;
+    let r = entry(roots, t / 64)? * 8;
     if r == 0 {
-        return 0;
+        return None;
     }
-    (r + t * ONE / r) / 2
+    Some((r + t * ONE / r) / 2)
 }
 
-// An entry of the printed table is below 8,192; a greater one leads nowhere.
-fn entry(roots: &Roots, k: u64) -> u64
+// An entry, where it is not above those of the printed table.
+fn entry(roots: &Roots, k: u64) -> Option<u64>
     requires { k < 1024 }
-    ensures { (roots.now ≡ printed_roots → result ≡ root k) × (result < 8192) }
+    ensures { Enters roots.now k result }
 {
-    let e = roots[k as usize];
-    if 8191 < e {
-        return 0;
+    let e = roots[k as usize] as u64;
+    if MOST_ENTRY < e {
+        return None;
     }
-    e as u64
+    Some(e)
 }

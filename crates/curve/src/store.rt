@@ -1,7 +1,7 @@
 // The store law: document 01, "The store law". One store serves interflow, ground water, channel and reach.
-ghost use Rattle.std.specs.Prelude.{◌≡◌, ◌+◌, ◌≤◌};
-ghost use Rattle.common.specs.Shares.{one};
-ghost use Rattle.curve.specs.Store.{outflow, most_inflow, most_content, as_released, store_call};
+ghost use Rattle.std.specs.Prelude.{◌≡◌, ◌↔◌, IsTrue, ◌+◌, ◌≤◌};
+ghost use Rattle.curve.specs.Store.{outflow, as_released, store_call};
+ghost use Rattle.curve.specs.Workers.{StoreIn};
 
 use common::refusal::Refusal;
 use common::shares::ONE;
@@ -28,46 +28,40 @@ pub const MOST_CONTENT: u64 = 72057594037927936; // 2^56
 
 impl Store {
     // Takes the inflow, and hands back the store and its outflow.
+    #[tactic(auto, using(crate::proofs::store::StoreLaws::store_accepts, crate::proofs::store::StoreLaws::store_refuses), unfolding(crate::specs::Store::content))]
     pub fn take(mut self, inflow: u64) -> Taken
         ensures { as_released result ≡ store_call self inflow }
     {
-        if ONE < self.a {
-            return refuse(self);
+        if !self.is_inside(inflow) {
+            return Taken {
+                store: self,
+                outflow: Err(Refusal::OutOfRange),
+            };
         }
-        if ONE < self.g {
-            return refuse(self);
-        }
-        if MOST_INFLOW < inflow {
-            return refuse(self);
-        }
-        if MOST_CONTENT < self.content {
-            return refuse(self);
-        }
-        let out = outflow_of(self.a, self.g, self.content, inflow);
+        let out = self.outflow(inflow);
         self.content = self.content + inflow - out;
         Taken {
             store: self,
             outflow: Ok(out),
         }
     }
-}
 
-// (a * i + g * v) / 65,536. The sum may pass 64 bits, so i and v are parted at 16 bits and the low products are
-// divided together.
-fn outflow_of(a: u64, g: u64, v: u64, i: u64) -> u64
-    requires { (a ≤ one) × (g ≤ one) × (v ≤ most_content) × (i ≤ most_inflow) }
-    ensures { (result ≡ outflow a g v i) × (result ≤ v + i) }
-{
-    let low_i = a * (i % ONE);
-    let low_v = g * (v % ONE);
-    a * (i / ONE) + g * (v / ONE) + (low_i + low_v) / ONE
-}
+    // Whether the store and its inflow are inside their limits.
+    fn is_inside(self, inflow: u64) -> bool
+        ensures { IsTrue result ↔ StoreIn self inflow }
+    {
+        self.a <= ONE && self.g <= ONE && inflow <= MOST_INFLOW && self.content <= MOST_CONTENT
+    }
 
-fn refuse(store: Store) -> Taken
-    ensures { result ≡ record { store = store; outflow = Err Refusal.OutOfRange } }
-{
-    Taken {
-        store,
-        outflow: Err(Refusal::OutOfRange),
+    // (a * i + g * v) / 65,536. The sum may pass 64 bits, so i and v are parted at 16 bits and the low products are divided together.
+    #[tactic(auto, using(crate::proofs::store::StoreLaws::outflow_parted, crate::proofs::store::StoreLaws::store_within))]
+    fn outflow(self, i: u64) -> u64
+        requires { StoreIn self i }
+        ensures { (result ≡ outflow self.a self.g self.content i) × (result ≤ self.content + i) }
+    {
+        let v = self.content;
+        let low_i = self.a * (i % ONE);
+        let low_v = self.g * (v % ONE);
+        self.a * (i / ONE) + self.g * (v / ONE) + (low_i + low_v) / ONE
     }
 }

@@ -10,6 +10,7 @@ use Rattle.common.specs.Shares.{one}
 use Rattle.common.specs.Limits.{within}
 use Rattle.common.proofs.Limits.{refuted, both, parts, within_in, within_limits}
 use Rattle.common.proofs.Refusals.{number_some}
+pub use Rattle.curve.specs.Workers.{CurveIn}
 use Rattle.curve.specs.Capacity.{root, power, held, ordinate, rise}
 use Rattle.curve.specs.Capacity.{Answer, as_answer, value, refused, least_e, most_e, most_c, most_m, curve_in, root_call, power_call, held_call, ordinate_call}
 use Rattle.curve.proofs.capacity.HeldLaws.{ordinate_le}
@@ -47,15 +48,6 @@ power_refuses t e n = rw (refuted (within 0 t one && within least_e e most_e) (�
         let t-in = within_limits 0 t one b.0 in
         let e-in = within_limits least_e e most_e b.1 in
         record { t_most = t-in.1; e_least = e-in.0; e_most = e-in.1 }
-
--- the limits of a curve
-pub record CurveIn (c m e : ℕ) : Type 0 where
-  pub c_least : 1 ≤ c
-  pub c_most : c ≤ most_c
-  pub m_least : 1 ≤ m
-  pub m_most : m ≤ most_m
-  pub e_least : least_e ≤ e
-  pub e_most : e ≤ most_e
 
 pub curve_in_lem : (c m e : ℕ) → CurveIn c m e → curve_in c m e ≡ true
 unfolding curve_in

@@ -1,13 +1,15 @@
 -- Power: it grows with t, is 0 at 0 and 65,536 at 65,536, and so never more. Assumes nothing.
-use mathlib.Core.Path.{◌≡◌, refl}
+use mathlib.Core.Path.{◌≡◌, refl, ◌∙◌}
 use mathlib.Core.Bool.{Bool, true, false, cond}
-use Prim.Native.Nat.{ℕ, zero, suc, ◌*◌, ◌/◌, ◌%◌, ◌≤◌, ◌<◌}
+use Prim.Native.Nat.{ℕ, zero, suc, ◌+◌, ◌*◌, ◌/◌, ◌%◌, ◌≤◌, ◌<◌}
 use native.Mathlib.Nat.{le_refl, mul-le-mul}
+use native.Mathlib.Numerals.{add-one}
 use native.Mathlib.Omega.{arith}
 use lib.Dec.{eqb}
+use borrow.Author.Tests.{ne_eqb}
 use Rattle.common.specs.Shares.{one}
 use Rattle.common.specs.Loops.{run}
-use Rattle.curve.specs.Capacity.{by, whole, part, power, least_e}
+use Rattle.curve.specs.Capacity.{root, by, whole, part, power, least_e}
 use Rattle.curve.proofs.capacity.RootLaws.{root_mono, root_one}
 
 pub shares_le : {x r : ℕ} → x ≤ one → r ≤ one → x * r ≤ one * one
@@ -15,6 +17,14 @@ shares_le {x} {r} h k = mul-le-mul {n₁ = x} {m₁ = r} {n₂ = one} {m₂ = on
 
 by_mono : {x y r s : ℕ} → x ≤ y → r ≤ s → by x r ≤ by y s
 by_mono {x} {y} {r} {s} h k = omega (arith, mul-le-mul {n₁ = x} {m₁ = r} {n₂ = y} {m₂ = s} h k)
+
+pub whole_none : (t : ℕ) → whole t 0 ≡ one
+unfolding whole run
+whole_none t = refl
+
+pub whole_more : (t k : ℕ) → whole t (k + 1) ≡ by (whole t k) t
+unfolding whole run
+whole_more t k = rw (add-one k) refl
 
 whole_mono : {s t : ℕ} (k : ℕ) → s ≤ t → whole s k ≤ whole t k
 unfolding whole run
@@ -71,3 +81,25 @@ part_one e b = go (eqb (e % 16 / b % 2) 1)
 pub power_one : (e : ℕ) → power one e ≡ one
 unfolding power
 power_one e = simp (root_one, whole_one, part_one)
+
+-- where the lower bits of e are 0, the parts that they stand for change nothing
+part_out : (e b r x : ℕ) → ¬ (e % 16 / b % 2 ≡ 1) → part e b r x ≡ x
+unfolding part
+part_out e b r x n = rw (ne_eqb (e % 16 / b % 2) 1 n)
+
+module _ (t e : ℕ) where
+  pub all_bits : power t e ≡ part e 1 (root (root (root (root t)))) (part e 2 (root (root (root t))) (part e 4 (root (root t)) (part e 8 (root t) (whole t (e / 16)))))
+  unfolding power
+  all_bits = refl
+
+  pub bits_2 : e % 2 ≡ 0 → power t e ≡ part e 2 (root (root (root t))) (part e 4 (root (root t)) (part e 8 (root t) (whole t (e / 16))))
+  bits_2 h = all_bits ∙ part_out e 1 _ _ (omega arith)
+
+  pub bits_4 : e % 4 ≡ 0 → power t e ≡ part e 4 (root (root t)) (part e 8 (root t) (whole t (e / 16)))
+  bits_4 h = bits_2 (omega arith) ∙ part_out e 2 _ _ (omega arith)
+
+  pub bits_8 : e % 8 ≡ 0 → power t e ≡ part e 8 (root t) (whole t (e / 16))
+  bits_8 h = bits_4 (omega arith) ∙ part_out e 4 _ _ (omega arith)
+
+  pub no_bits : e % 16 ≡ 0 → power t e ≡ whole t (e / 16)
+  no_bits h = bits_8 (omega arith) ∙ part_out e 8 _ _ (omega arith)

@@ -1,5 +1,5 @@
 -- The least share with which at most w is held, and the ordinate by it: document 02, No. 4. Assumes nothing.
-use mathlib.Core.Path.{◌≡◌}
+use mathlib.Core.Path.{◌≡◌, sym, subst}
 use Prim.Native.Nat.{ℕ, ◌+◌, ◌-◌, ◌*◌, ◌/◌, ◌≤◌, ◌<◌}
 use native.Mathlib.Nat.{mul-le-mul_right, le-div_iff_mul-le, div-lt_iff_lt-mul}
 use native.Mathlib.Omega.{arith}
@@ -32,6 +32,12 @@ module _ (c e w : ℕ) where
   least_share_is t h l u =
       smallest_is (λ t. leb (held_at c e t) w) one t h (le-leb _ _ l)
       (λ j i. lt-leb (held_at c e j) w (omega (arith, u (omega arith), held_at_mono c e {s = j} {t = t - 1} (omega arith))))
+
+  -- the same of an interval that is narrowed to one share
+  pub narrowed : (lo hi : ℕ) → lo < hi → hi ≤ one → w < held_at c e lo → held_at c e hi ≤ w → hi - lo ≤ 1 → hi ≡ least_share c e w
+  narrowed lo hi l m a b h =
+      let next : lo ≡ hi - 1 = omega arith in
+      sym (least_share_is hi m b (λ _. subst (λ (t : ℕ). w < held_at c e t) next a))
 
   -- "with t the least for which c − c × Power(t, e) / 65,536 is at most w, the ordinate is m less t × m / 65,536, this last division
   -- rounded up", for every m above 0

@@ -1,6 +1,6 @@
 -- The printed table and where it leads: each entry is the root of its place, and Newton's step from eight times an entry comes to the
 -- root or to one more. Assumes nothing.
-use mathlib.Core.Path.{◌≡◌, sym, ap, subst, ◌∙◌}
+use mathlib.Core.Path.{◌≡◌, refl, sym, ap, subst, ◌∙◌}
 use mathlib.Core.Bool.{Bool, true, ◌&&◌}
 use mathlib.Core.List.{List}
 use Prim.Native.Nat.{ℕ, suc, ◌+◌, ◌-◌, ◌*◌, ◌/◌, ◌^◌, ◌≤◌, ◌<◌}
@@ -9,11 +9,13 @@ use native.Mathlib.Omega.{arith}
 use lib.Dec.{leb}
 use lib.ListN.{length, get_or}
 use borrow.Author.Tests.{leb-true}
+use Rattle.std.specs.Prelude.{Option, Some, None, IsSome}
 use Rattle.common.specs.Shares.{one}
 use Rattle.common.proofs.Limits.{parts}
 use Rattle.common.proofs.Loops.{table_in}
 use Rattle.common.proofs.Tables.{passes, passes_at, table_is}
 use Rattle.curve.specs.Capacity.{root, printed_roots}
+use Rattle.curve.specs.Workers.{Leads}
 use Rattle.curve.proofs.capacity.RootLaws.{root_square, root_above, root_unique, root_least, root_most, square_positive, newton_above}
 
 -- the table's rule: r is the greatest with r × r ≤ k × 65,536
@@ -86,6 +88,14 @@ module _ (t k r : ℕ) (least : 64 * k ≤ t) (most : t < 64 * k + 64) (from : 6
       near_mean r d x (omega (arith, start, leads)) (omega (arith, quotient_most)) (omega (arith, start, leads, apart)) in
       let at_most : x ≤ root t = root_most t x (omega (arith, mean, product, ap (λ (n : ℕ). n * r) apart)) in
       omega (arith, at_most)
+
+-- the printed table leads, to the root or one more
+pub leads_some : (t : ℕ) (o : Option ℕ) {l : List ℕ} → Leads l t o → l ≡ printed_roots → IsSome o
+leads_some t (Some r) h e = refl
+leads_some t None h e = absurd (h e)
+
+pub leads_to : (t : ℕ) {o : Option ℕ} {l : List ℕ} {r : ℕ} → Leads l t o → l ≡ printed_roots → o ≡ Some r → (root t ≤ r) × (r ≤ root t + 1)
+leads_to t {l = l} h e is = (subst (λ (o : Option ℕ). Leads l t o) is h).1 e
 
 -- what is the root or one more: its square tells which
 module _ (t r : ℕ) (h : (root t ≤ r) × (r ≤ root t + 1)) where

@@ -2,8 +2,8 @@
 -- outside. Assumes nothing.
 use mathlib.Core.Path.{◌≡◌, ap, ◌∙◌}
 use mathlib.Core.Bool.{true, ◌&&◌}
-use Prim.Native.Nat.{ℕ, ◌+◌, ◌-◌, ◌*◌, ◌≤◌, ◌<◌}
-use native.Mathlib.Nat.{le_refl, mul-le-mul_left, mul-le-mul_right}
+use Prim.Native.Nat.{ℕ, ◌+◌, ◌-◌, ◌*◌, ◌/◌, ◌%◌, ◌≤◌, ◌<◌}
+use native.Mathlib.Nat.{le_refl, div-add-mod, mul-le-mul_left, mul-le-mul_right}
 use native.Mathlib.Omega.{arith}
 use lib.Dec.{leb}
 use borrow.Author.Tests.{le-leb, leb-true}
@@ -12,6 +12,7 @@ use Rattle.common.specs.Shares.{one}
 use Rattle.common.specs.declared.refusal.Refusal.{Refusal}
 use Rattle.common.proofs.Limits.{refuted, parts}
 use Rattle.common.proofs.Refusals.{number_some}
+pub use Rattle.curve.specs.Workers.{StoreIn}
 use Rattle.curve.specs.declared.store.Store.{Store}
 use Rattle.curve.specs.declared.store.Taken.{Taken}
 use Rattle.curve.specs.Store.{outflow, content, most_inflow, most_content, store_in, Released, released, kept, released_of, as_released, store_call}
@@ -26,6 +27,11 @@ module _ {a g : ℕ} (a-le : a ≤ one) (g-le : g ≤ one) where
   pub store_conserves : (v i : ℕ) → content a g v i + outflow a g v i ≡ v + i
   unfolding content
   store_conserves v i = omega (arith, store_within v i)
+
+-- with i and v parted at 16 bits: the high parts are whole multiples of 65,536, so dividing the sum of the low products divides the whole
+pub outflow_parted : (a g v i : ℕ) → a * (i / one) + g * (v / one) + (a * (i % one) + g * (v % one)) / one ≡ outflow a g v i
+unfolding outflow
+outflow_parted a g v i = omega (arith, ap (λ (x : ℕ). a * x) (div-add-mod i one), ap (λ (x : ℕ). g * x) (div-add-mod v one))
 
 -- the number added before the division: nothing, while the law rounds down
 abbrev half : ℕ
@@ -80,18 +86,11 @@ module _ {a g : ℕ} (a-le : a ≤ one) (g-le : g ≤ one) where
       λ l. omega (arith, r.upper, store_conserves a-le g-le v i, mul-le-mul_right {m = 1} {n = a} i za, mul-le-mul_right {m = 1} {n = g} v zg) in
       omega arith
 
--- the limits of the store call
-pub record InLimits (s : Store) (i : ℕ) : Type 0 where
-  pub a_in : s.a ≤ one
-  pub g_in : s.g ≤ one
-  pub inflow_in : i ≤ most_inflow
-  pub content_in : s.content ≤ most_content
-
-pub store_accepts : (s : Store) (i : ℕ) → InLimits s i → store_call s i ≡ released s i
+pub store_accepts : (s : Store) (i : ℕ) → StoreIn s i → store_call s i ≡ released s i
 unfolding store_call store_in
 store_accepts s i h = simp (le-leb _ _ h.a_in, le-leb _ _ h.g_in, le-leb _ _ h.inflow_in, le-leb _ _ h.content_in)
 
-store_limits : (s : Store) (i : ℕ) → store_in s i ≡ true → InLimits s i
+store_limits : (s : Store) (i : ℕ) → store_in s i ≡ true → StoreIn s i
 unfolding store_in
 store_limits s i h =
     let d = parts (leb s.a one && leb s.g one && leb i most_inflow) (leb s.content most_content) h in
@@ -99,7 +98,7 @@ store_limits s i h =
     let b = parts (leb s.a one) (leb s.g one) c.0 in
     record { a_in = leb-true _ _ b.0; g_in = leb-true _ _ b.1; inflow_in = leb-true _ _ c.1; content_in = leb-true _ _ d.1 }
 
-pub store_refuses : (s : Store) (i : ℕ) → (InLimits s i → ⊥) → store_call s i ≡ kept s
+pub store_refuses : (s : Store) (i : ℕ) → (StoreIn s i → ⊥) → store_call s i ≡ kept s
 unfolding store_call
 store_refuses s i n = rw (refuted (store_in s i) (λ h. n (store_limits s i h)))
 
@@ -107,7 +106,7 @@ store_refuses s i n = rw (refuted (store_in s i) (λ h. n (store_limits s i h)))
 abbrev pub taken : Store → ℕ → Taken
 taken s i = record { store = (released s i).store; outflow = Ok (released s i).outflow }
 
-pub store_takes : (s : Store) (i : ℕ) {t : Taken} → InLimits s i → as_released t ≡ store_call s i → t ≡ taken s i
+pub store_takes : (s : Store) (i : ℕ) {t : Taken} → StoreIn s i → as_released t ≡ store_call s i → t ≡ taken s i
 store_takes s i {t} h called = go t.store t.outflow (called ∙ store_accepts s i h)
   where
     go : (st : Store) (o : Result ℕ Refusal) → released_of st o ≡ released s i → ◌≡◌ {A = Taken} (record { store = st; outflow = o }) (taken s i)

@@ -1,12 +1,7 @@
--- `curve::powers::whole_of` meets its contract: x is carried from turn to turn, and stays a share. Assumes nothing.
-use Prim.Native.Nat.{◌-◌, ◌≤◌}
-use Rattle.common.specs.Shares.{one}
-use Rattle.common.proofs.Loops.{Carrying}
-use Rattle.curve.specs.Capacity.{by}
+-- `curve::powers::whole_of` meets its contract. Assumes nothing.
+use mathlib.Core.Path.{◌≡◌}
+use Rattle.curve.specs.Capacity.{whole}
 use Rattle.curve.proofs.powers.whole_of.Given as goal
 
 abbrev pub invariant-loop : goal.invariant-loop
-invariant-loop l = Carrying (λ i y. by y l.t) one l.k l.counter l.x × (l.x ≤ one)
-
-abbrev pub decreases-loop : goal.decreases-loop
-decreases-loop l = l.k - l.counter
+invariant-loop l = l.x ≡ whole l.t l.counter

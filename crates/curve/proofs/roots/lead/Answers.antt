@@ -3,11 +3,7 @@ use native.Mathlib.Omega.{arith}
 use Rattle.curve.proofs.capacity.RootLaws.{root_half}
 use Rattle.curve.proofs.roots.lead.Goals as goal
 
-pub returns-then-t-lt-ENTRIES : goal.returns-then-t-lt-ENTRIES
-returns-then-t-lt-ENTRIES c = record { most = omega arith; root_or_next = λ e. omega (arith, c.entry.ensures.0 e) }
-
 pub returns-then-t-lt-NEAR : goal.returns-then-t-lt-NEAR
 returns-then-t-lt-NEAR c =
-    let near = c.near.ensures in
-    let t = c.args.t in
-    record { most = omega (arith, near.most); root_or_next = λ e. omega (arith, near.root_or_next e, root_half t) }
+    let near = c.in_ok-near.ensures in
+    (omega (arith, near), λ e. omega (arith, near.1 e, root_half c.args.t))
