@@ -4,13 +4,16 @@ ghost use Rattle.common.specs.Shares.{one};
 ghost use Rattle.common.specs.Weather.{WeatherIn};
 ghost use Rattle.curve.specs.Store.{most_inflow, most_content};
 ghost use Rattle.subbasin.specs.Record.{record_in};
-ghost use Rattle.subbasin.specs.Step.{holds, let_go, with_drained, stepped, as_stepped, sub_call, AsBefore};
+ghost use Rattle.subbasin.specs.FreeWater.{drained};
+ghost use Rattle.subbasin.specs.Slices.{sliced};
+ghost use Rattle.subbasin.specs.Step.{holds, let_go, evaporated_of, with_drained, as_stepped, sub_call, AsBefore};
 
 use crate::free_water::Drained;
+use crate::ground::Ground;
+use crate::lag;
 use crate::record::SubBasin;
 use crate::slices::Sliced;
-use crate::soil::{Evaporated, Layers};
-use crate::{free_water, lag, slices, soil};
+use crate::soil::Evaporated;
 use common::refusal::Refusal;
 use common::shares::ONE;
 use common::weather::{MOST_PAN, MOST_RAIN, Weather};
@@ -54,26 +57,24 @@ impl SubBasin {
         if !self.allowed(self.fixed.reach) {
             return Err(Refusal::OutOfRange);
         }
-        Ok(self.run(roots, weather))
+        let (ev, sl, dr) = self.rain_on(roots, weather);
+        Ok(self.route(ev, sl, dr))
     }
 
-    // The stages in order: evapotranspiration, net rain in slices, what drains, then the way to the outlet.
-    fn run(&mut self, roots: &Roots, weather: Weather) -> Flows
-        requires { (record_in self.old.fixed.reach self.old ≡ true) × WeatherIn weather }
-        ensures { as_stepped self.new (Ok result) ≡ stepped self.old weather }
+    // The stages of soil and free water in order: evapotranspiration, net rain in slices, and what drains.
+    fn rain_on(&self, roots: &Roots, weather: Weather) -> (Evaporated, Sliced, Drained)
+        requires { (record_in self.now.fixed.reach self.now ≡ true) × WeatherIn weather }
+        ensures evaporates { result.0 ≡ evaporated_of self.now weather }
+        ensures slices { result.1 ≡ sliced self.now.fixed result.0.layers self.now.contents.g result.0.pe }
+        ensures drains { result.2 ≡ drained self.now.fixed result.1.kept }
+        ensures direct_most { result.1.rs + result.1.rb ≤ 1100000 }
+        ensures slow_most { result.2.ri + result.2.rg ≤ 100000 }
     {
-        let p = self.fixed;
-        let w = self.contents;
-        let layers = Layers {
-            wu: w.wu,
-            wl: w.wl,
-            wd: w.wd,
-        };
-        let ev = soil::evaporate(p, layers, weather.rain, p.k * weather.pan / ONE);
-        let left = ev.layers;
-        let sl = slices::take_slices(roots, p, left, w.g, ev.pe);
-        let dr = free_water::drain(p, sl.kept);
-        self.route(ev, sl, dr)
+        let ground = Ground::of(roots, self);
+        let ev = ground.evaporate(self.contents.into(), weather.rain, ground.ep(weather.pan));
+        let sl = ground.take_slices(ev.layers, self.contents.g, ev.pe);
+        let dr = ground.drain(sl.kept);
+        (ev, sl, dr)
     }
 
     // The slow stores, the lag line and the channel.

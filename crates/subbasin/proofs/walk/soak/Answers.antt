@@ -1,11 +1,10 @@
 -- `subbasin::walk::soak` meets its contract. Assumes nothing.
-use mathlib.Core.Path.{◌≡◌, refl, ap}
+use mathlib.Core.Path.{◌≡◌, ap}
 use Prim.Native.Nat.{ℕ, ◌+◌, ◌-◌, ◌≤◌}
 use native.Mathlib.Omega.{arith}
 use Rattle.subbasin.specs.declared.record.Parameters.{Parameters}
 use Rattle.subbasin.specs.Soil.{wm, rb, gain}
 use Rattle.subbasin.specs.Workers.{SoilIn, soaked}
-use Rattle.subbasin.proofs.slices.CurveLaws.{soil_asks, risen_at}
 use Rattle.subbasin.proofs.walk.WalkLaws.{soaked_none, soaked_in}
 use Rattle.subbasin.proofs.walk.soak.Goals as goal
 
@@ -23,20 +22,11 @@ module _ (p : Parameters) (w pe : ℕ) {gained : ℕ} (gain_is : gained ≡ gain
 pub returns-then-pe-eq0 : goal.returns-then-pe-eq0
 returns-then-pe-eq0 c = none _ _ c.if-pe-eq0.true
 
-pub raise-requires : goal.raise-requires
-raise-requires c =
-    let pre = c.requires in
-    soil_asks _ _ _ pre.0 pre.2 (omega (arith, pre.3)) pre.1
-
 pub gain_of-requires : goal.gain_of-requires
-gain_of-requires c =
-    let pre = c.requires in
-    (pre.0, pre.2, omega (arith, c.if-pe-eq0.false), omega (arith, pre.3), risen_at _ pre.1 refl c.raise.ensures)
+gain_of-requires c = (c.requires.0, omega (arith, c.if-pe-eq0.false), omega (arith, c.requires.1))
 
 pub overflow_add-result : goal.overflow_add-result
-overflow_add-result c =
-    let pre = c.requires in
-    omega (arith, sum_fits _ _ _ c.gain_of.ensures pre.0 pre.2)
+overflow_add-result c = omega (arith, sum_fits _ _ _ c.gain_of.ensures c.args.ground.now.soil_in c.requires.0)
 
 pub returns : goal.returns
 returns c = sum_is _ _ _ c.gain_of.ensures

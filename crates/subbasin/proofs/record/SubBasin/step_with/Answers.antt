@@ -5,6 +5,7 @@ use native.Mathlib.Omega.{arith}
 use Rattle.subbasin.specs.declared.record.SubBasin.{SubBasin}
 use Rattle.subbasin.specs.Record.{record_in}
 use Rattle.subbasin.proofs.record.RecordLaws.{RecordIn, record_in_lem, record_limits}
+use Rattle.subbasin.proofs.step.StageLaws.{chained}
 use Rattle.subbasin.proofs.step.CallLaws.{step_accepts, step_refuses}
 use Rattle.subbasin.proofs.record.SubBasin.step_with.Goals as goal
 
@@ -20,12 +21,15 @@ returns-then-weather-gt-MOST_PAN c = sym (step_refuses _ _ (λ h. omega (arith, 
 pub returns-then-not-allowed : goal.returns-then-not-allowed
 returns-then-not-allowed c = sym (step_refuses _ _ (λ h. outside _ (sym c.allowed.ensures ∙ c.if-not-allowed.true) h.in_record))
 
-pub run-requires : goal.run-requires
-run-requires c = (sym c.allowed.ensures ∙ c.if-not-allowed.false, omega arith)
+pub rain_on-requires : goal.rain_on-requires
+rain_on-requires c = (sym c.allowed.ensures ∙ c.if-not-allowed.false, omega arith)
+
+pub route-requires : goal.route-requires
+route-requires c = (sym c.allowed.ensures ∙ c.if-not-allowed.false, c.rain_on.ensures.direct_most, c.rain_on.ensures.slow_most)
 
 pub returns : goal.returns
 returns c =
-    c.run.ensures
+    c.route.ensures ∙ chained _ _ c.rain_on.ensures.evaporates c.rain_on.ensures.slices c.rain_on.ensures.drains
     ∙ sym
     (step_accepts _ _
     (record {
