@@ -6,7 +6,7 @@ ghost use Rattle.curve.specs.Store.{most_inflow, most_content};
 ghost use Rattle.subbasin.specs.Record.{record_in};
 ghost use Rattle.subbasin.specs.FreeWater.{drained};
 ghost use Rattle.subbasin.specs.Slices.{sliced};
-ghost use Rattle.subbasin.specs.Step.{holds, let_go, evaporated_of, with_drained, as_stepped, sub_call, AsBefore};
+ghost use Rattle.subbasin.specs.Step.{holds, let_go, evaporated_of, with_drained, as_stepped, call_in, sub_call, AsBefore};
 
 use crate::free_water::Drained;
 use crate::ground::Ground;
@@ -36,6 +36,17 @@ pub struct Flows {
 }
 
 impl SubBasin {
+    // Whether a step under this weather is accepted.
+    #[tactic(auto, unfolding(crate::specs::Step::call_in))]
+    pub fn accepts(&self, weather: Weather) -> bool
+        ensures { result ≡ call_in self.now weather }
+    {
+        if MOST_RAIN < weather.rain {
+            return false;
+        }
+        weather.pan <= MOST_PAN && self.allowed(self.fixed.reach)
+    }
+
     // One step under the weather of a line. A step that is refused leaves the record as it was.
     pub fn step(&mut self, weather: Weather) -> Result<Flows, Refusal>
         ensures { (as_stepped self.new result ≡ sub_call self.old weather) × AsBefore self.old weather (as_stepped self.new result) }
@@ -45,16 +56,11 @@ impl SubBasin {
     }
 
     // The same with a table of roots that is lent (curve::capacity), for whoever takes many steps.
+    #[tactic(auto, using(crate::proofs::step::CallLaws::called), unfolding(crate::specs::Step::sub_call))]
     pub fn step_with(&mut self, roots: &Roots, weather: Weather) -> Result<Flows, Refusal>
         ensures { as_stepped self.new result ≡ sub_call self.old weather }
     {
-        if MOST_RAIN < weather.rain {
-            return Err(Refusal::OutOfRange);
-        }
-        if MOST_PAN < weather.pan {
-            return Err(Refusal::OutOfRange);
-        }
-        if !self.allowed(self.fixed.reach) {
+        if !self.accepts(weather) {
             return Err(Refusal::OutOfRange);
         }
         let (ev, sl, dr) = self.rain_on(roots, weather);
@@ -62,8 +68,9 @@ impl SubBasin {
     }
 
     // The stages of soil and free water in order: evapotranspiration, net rain in slices, and what drains.
+    #[tactic(auto, using(crate::proofs::step::CallLaws::called))]
     fn rain_on(&self, roots: &Roots, weather: Weather) -> (Evaporated, Sliced, Drained)
-        requires { (record_in self.now.fixed.reach self.now ≡ true) × WeatherIn weather }
+        requires { call_in self.now weather ≡ true }
         ensures evaporates { result.0 ≡ evaporated_of self.now weather }
         ensures slices { result.1 ≡ sliced self.now.fixed result.0.layers self.now.contents.g result.0.pe }
         ensures drains { result.2 ≡ drained self.now.fixed result.1.kept }
@@ -83,13 +90,11 @@ impl SubBasin {
         requires { (record_in self.old.fixed.reach self.old ≡ true) × (sl.rs + sl.rb ≤ 1100000) × (dr.ri + dr.rg ≤ 100000) }
         ensures { as_stepped self.new (Ok result) ≡ with_drained self.old ev sl dr }
     {
-        let p = self.fixed;
-        let line = self.line;
-        let ti = pass(p.ci, &mut self.contents.vi, dr.ri);
-        let tg = pass(p.cg, &mut self.contents.vg, dr.rg);
-        let t = (sl.rs + sl.rb + ti + tg) * p.area;
-        let q = pass(p.cs, &mut self.channel, lag::leave(line, t));
-        self.line = lag::enter(line, t);
+        let ti = pass(self.fixed.ci, &mut self.contents.vi, dr.ri);
+        let tg = pass(self.fixed.cg, &mut self.contents.vg, dr.rg);
+        let t = (sl.rs + sl.rb + ti + tg) * self.fixed.area;
+        let q = pass(self.fixed.cs, &mut self.channel, lag::leave(&self.line, t));
+        self.line = lag::enter(self.line, t);
         let layers = sl.layers;
         self.contents.wu = layers.wu;
         self.contents.wl = layers.wl;

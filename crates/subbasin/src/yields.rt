@@ -8,7 +8,7 @@ use crate::ground::Ground;
 use crate::record::SubBasin;
 use crate::walk::Walk;
 use common::refusal::Refusal;
-use common::weather::MOST_PAN;
+use common::weather::Weather;
 use curve::capacity;
 
 // The most millimetres of a rain.
@@ -16,13 +16,11 @@ const MOST_MM: u64 = 1000;
 
 impl SubBasin {
     // A rain for which RB + R of the next step, with this pan depth, is at least the wanted depth, or none.
+    #[tactic(auto, using(crate::proofs::step::CallLaws::called))]
     pub fn rain_for(&self, pan: u64, wanted: u64) -> Result<Option<u64>, Refusal>
         ensures { Answers (own_refusal self.now pan) (yield self.now pan) wanted (as_answer result) }
     {
-        if MOST_PAN < pan {
-            return Err(Refusal::OutOfRange);
-        }
-        if !self.allowed(self.fixed.reach) {
+        if !self.accepts(Weather { rain: 0, pan }) {
             return Err(Refusal::OutOfRange);
         }
         let roots = capacity::printed_roots();
