@@ -17,6 +17,7 @@ pub struct Drained {
 
 impl Ground<'_> {
     // What is kept of g + r, where r of pe runs off.
+    #[tactic(auto, using(crate::proofs::free_water::FreeWaterLaws::level_le), unfolding(crate::specs::FreeWater::keep))]
     pub fn keep_of(&self, g: u64, pe: u64, r: u64) -> u64
         requires { (g ≤ self.now.p.now.sm) × (0 < r) × (r ≤ pe) × (pe ≤ 1000000) }
         ensures { result ≡ keep self.now.p.now g pe r }
@@ -26,6 +27,7 @@ impl Ground<'_> {
     }
 
     // S, free water over the producing area, which is r / pe of the sub-basin.
+    #[tactic(auto, unfolding(crate::specs::FreeWater::level))]
     fn level_of(&self, g: u64, pe: u64, r: u64) -> u64
         requires { (g ≤ self.now.p.now.sm) × (0 < r) × (pe ≤ 1000000) }
         ensures { result ≡ level self.now.p.now g pe r }
@@ -34,6 +36,7 @@ impl Ground<'_> {
     }
 
     // What is kept drains.
+    #[tactic(auto, using(crate::proofs::free_water::FreeWaterLaws::drains_most), unfolding(crate::specs::FreeWater::drained))]
     pub fn drain(&self, kept: u64) -> Drained
         requires { kept ≤ self.now.p.now.sm }
         ensures answered { result ≡ drained self.now.p.now kept }
@@ -50,6 +53,7 @@ impl Ground<'_> {
 }
 
 // MS, the greatest point capacity of free water.
+#[tactic(auto, unfolding(crate::specs::FreeWater::ms))]
 pub fn most_point(p: &Parameters) -> u64
     requires { FreeIn p.now }
     ensures { result ≡ ms p.now }

@@ -52,6 +52,7 @@ impl<'a> Ground<'a> {
     }
 
     // EP, from the pan depth.
+    #[tactic(auto, unfolding(crate::specs::Soil::ep))]
     pub fn ep(&self, pan: u64) -> u64
         requires { pan ≤ 100000 }
         ensures answered { result ≡ ep self.now.p.now pan }
@@ -61,6 +62,7 @@ impl<'a> Ground<'a> {
     }
 
     // What the soil holds once pe has come on top of tension water w.
+    #[tactic(auto, using(crate::proofs::ground::GroundLaws::soil_curve_in))]
     pub fn soil_top(&self, w: u64, pe: u64) -> u64
         requires { (w ≤ wm self.now.p.now) × (pe ≤ 1000000) }
         ensures { let p = self.now.p.now in result ≡ rise (wm p) (mm p) p.bn w pe }
@@ -69,9 +71,11 @@ impl<'a> Ground<'a> {
     }
 
     // What the curve of free water holds once pe has come on top of s.
+    #[tactic(auto, using(crate::proofs::ground::GroundLaws::free_curve_in, curve::proofs::capacity::HeldLaws::rise_le))]
     pub fn free_top(&self, s: u64, pe: u64) -> u64
         requires { (s ≤ self.now.p.now.sm) × (pe ≤ 1000000) }
-        ensures { let p = self.now.p.now in result ≡ rise p.sm (ms p) p.xn s pe }
+        ensures risen { let p = self.now.p.now in result ≡ rise p.sm (ms p) p.xn s pe }
+        ensures most { result ≤ self.now.p.now.sm }
     {
         raise(self.roots, self.free, s, pe)
     }

@@ -17,6 +17,7 @@ pub fn allowed(line: &LagLine) -> bool
 }
 
 // What leaves when the amount t enters: what entered as many steps ago as the lag says.
+#[tactic(auto, using(crate::proofs::lag::LagLaws::leaves_after_lag), unfolding(crate::specs::Lag::leaving))]
 pub fn leave(line: &LagLine, t: u64) -> u64
     requires { line.now.lag ≤ 15 }
     ensures answered { result ≡ leaving line.now t }

@@ -35,6 +35,7 @@ impl Ground<'_> {
     }
 
     // One slice.
+    #[tactic(auto, using(crate::proofs::soil::SoilLaws::runs, crate::proofs::free_water::FreeWaterLaws::keep_none, crate::proofs::free_water::FreeWaterLaws::keeps), unfolding(crate::specs::Slices::after_slice))]
     fn take_slice(&self, s: Sliced, pe: u64) -> Sliced
         requires { RoomFor self.now.p.now pe s × (0 < pe) }
         ensures { result ≡ after_slice self.now.p.now pe s }

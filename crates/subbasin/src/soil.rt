@@ -69,6 +69,7 @@ impl Ground<'_> {
     }
 
     // What the upper layer leaves wanting, d, is drawn from the lower and the deep layer.
+    #[tactic(auto, unfolding(crate::specs::Soil::deeper))]
     fn draw_deeper(&self, w: Layers, rain: u64, u: u64, d: u64) -> Evaporated
         requires { LayersIn self.now.p.now w × (d ≤ 200000) × (u ≤ w.wu) × (rain + u ≤ 200000) }
         ensures { result ≡ deeper self.now.p.now w rain u d }
@@ -85,6 +86,7 @@ impl Ground<'_> {
     }
 
     // Runoff from the impervious part, and from what the soil can't hold of the rest of the net rain.
+    #[tactic(auto, using(crate::proofs::soil::SoilLaws::gain_in), unfolding(crate::specs::Soil::runoff, crate::specs::Soil::rb))]
     pub fn run_off(&self, w: Layers, pe: u64) -> Runoff
         requires { LayersIn self.now.p.now w × (0 < pe) × (pe ≤ 1000000) }
         ensures { result ≡ runoff self.now.p.now w pe }
@@ -99,6 +101,7 @@ impl Ground<'_> {
     }
 
     // What soil with tension water w gains of pe.
+    #[tactic(auto, using(crate::proofs::soil::SoilLaws::gain_fits), unfolding(crate::specs::Soil::gain, crate::specs::Soil::rb))]
     pub fn gain_of(&self, w: u64, pe: u64) -> u64
         requires { (w ≤ wm self.now.p.now) × (0 < pe) × (pe ≤ 1000000) }
         ensures { let p = self.now.p.now in result ≡ gain p w pe (pe - rb p pe) }
@@ -108,6 +111,7 @@ impl Ground<'_> {
     }
 
     // The gain fills the upper layer, then the lower, then the deep one.
+    #[tactic(auto, unfolding(crate::specs::Soil::refilled))]
     fn fill(&self, w: Layers, gained: u64) -> Layers
         requires { let p = self.now.p.now in LayersIn p w × (tension w + gained ≤ wm p) }
         ensures { result ≡ refilled self.now.p.now w gained }
@@ -140,6 +144,7 @@ fn fall(w: Layers, rain: u64, u: u64, el: u64, ed: u64) -> Evaporated
 }
 
 // MM, the greatest point capacity of tension water.
+#[tactic(auto, unfolding(crate::specs::Soil::mm))]
 pub fn most_point(p: &Parameters) -> u64
     requires { SoilIn p.now }
     ensures { result ≡ mm p.now }

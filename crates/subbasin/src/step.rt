@@ -48,6 +48,7 @@ impl SubBasin {
     }
 
     // One step under the weather of a line. A step that is refused leaves the record as it was.
+    #[tactic(auto, using(crate::proofs::step::CallLaws::call_whole))]
     pub fn step(&mut self, weather: Weather) -> Result<Flows, Refusal>
         ensures { (as_stepped self.new result ≡ sub_call self.old weather) × AsBefore self.old weather (as_stepped self.new result) }
     {
@@ -56,7 +57,7 @@ impl SubBasin {
     }
 
     // The same with a table of roots that is lent (curve::capacity), for whoever takes many steps.
-    #[tactic(auto, using(crate::proofs::step::CallLaws::called), unfolding(crate::specs::Step::sub_call))]
+    #[tactic(auto, using(crate::proofs::step::CallLaws::called, crate::proofs::step::StageLaws::chained), unfolding(crate::specs::Step::sub_call))]
     pub fn step_with(&mut self, roots: &Roots, weather: Weather) -> Result<Flows, Refusal>
         ensures { as_stepped self.new result ≡ sub_call self.old weather }
     {

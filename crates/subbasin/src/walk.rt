@@ -31,6 +31,7 @@ impl Walk {
     }
 
     // On to the rain of k millimetres, where EP is e.
+    #[tactic(auto, using(crate::proofs::walk::WalkLaws::climbed_in), unfolding(crate::specs::Workers::walked_to))]
     pub fn go_on(self, ground: &Ground, e: u64, k: u64) -> Walk
         requires { (self.whole ≤ wm ground.now.p.now) × (k ≤ 1000) }
         ensures { result ≡ walked_to ground.now.p.now (net_rain e k) self }
@@ -47,6 +48,7 @@ impl Walk {
     }
 
     // The tension water after so many whole slices, one more than before at most.
+    #[tactic(auto, unfolding(crate::specs::Workers::climbed))]
     fn climb(&self, ground: &Ground, slices: u64) -> u64
         requires { self.now.whole ≤ wm ground.now.p.now }
         ensures { result ≡ climbed ground.now.p.now self.now.whole self.now.slices slices }
@@ -59,6 +61,7 @@ impl Walk {
 }
 
 // The tension water w after a slice of pe.
+#[tactic(auto, using(crate::proofs::walk::WalkLaws::soaked_none, crate::proofs::walk::WalkLaws::soaked_in), unfolding(crate::specs::Workers::soaked))]
 fn soak(ground: &Ground, w: u64, pe: u64) -> u64
     requires { (w ≤ wm ground.now.p.now) × (pe ≤ most_slice) }
     ensures { result ≡ soaked ground.now.p.now pe w }
