@@ -1,10 +1,10 @@
 -- The ground of a record that 9 allows, and its curves of tension water and of free water: what raising them asks and gives.
 -- Assumes nothing.
-use mathlib.Core.Path.{◌≡◌, ap, ◌∙◌}
+use mathlib.Core.Path.{◌≡◌}
 use mathlib.Core.Bool.{true}
-use Prim.Native.Nat.{ℕ, ◌≤◌}
+use Prim.Native.Nat.{◌≤◌}
 use Rattle.curve.specs.declared.capacity.Curve.{Curve}
-use Rattle.curve.specs.Capacity.{curve_in, rise}
+use Rattle.curve.specs.Capacity.{curve_in}
 use Rattle.curve.proofs.capacity.CallLaws.{curve_in_lem}
 use Rattle.subbasin.specs.declared.record.Parameters.{Parameters}
 use Rattle.subbasin.specs.declared.record.SubBasin.{SubBasin}
@@ -37,7 +37,3 @@ soil_curve_in p soil is = rw is (curve_in_lem (wm p) (mm p) p.bn (tension_curve 
 
 pub free_curve_in : (p : Parameters) {k : Curve} → FreeIn p → k ≡ free_curve p → curve_in k.c k.m k.e ≡ true
 free_curve_in p free is = rw is (curve_in_lem p.sm (ms p) p.xn (free_curve_lem p free))
-
--- the rise, where the curve is known by an equation
-pub risen_at : (w pe : ℕ) {k k' : Curve} {top : ℕ} → k ≡ k' → top ≡ rise k.c k.m k.e w pe → top ≡ rise k'.c k'.m k'.e w pe
-risen_at w pe is h = h ∙ ap (λ (x : Curve). rise x.c x.m x.e w pe) is
