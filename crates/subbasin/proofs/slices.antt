@@ -1,4 +1,3 @@
 -- Laws about specs/Slices.antt, which the proofs of this crate and of the crates above cite.
 pub mod SlicesLaws
-pub mod CurveLaws
 pub mod FastLaws

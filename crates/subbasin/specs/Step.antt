@@ -6,7 +6,6 @@ use Rattle.common.specs.declared.weather.Weather.{Weather}
 use Rattle.common.specs.declared.refusal.Refusal.{Refusal}
 use Rattle.common.specs.Refusals.{number_of}
 use Rattle.common.specs.Weather.{most_rain, most_pan}
-use Rattle.curve.specs.declared.store.Store.{Store}
 use Rattle.curve.specs.Store.{outflow, content}
 use Rattle.subbasin.specs.declared.record.Contents.{Contents}
 use Rattle.subbasin.specs.declared.record.LagLine.{LagLine}
@@ -43,9 +42,6 @@ layers_of w = record { wu = w.wu; wl = w.wl; wd = w.wd }
 -- "a = g = 65,536 − CI (or CG)", and CS
 abbrev pub rest : ℕ → ℕ
 rest share = one - share
-
-abbrev pub slow_store : ℕ → ℕ → Store
-slow_store share v = record { a = rest share; g = rest share; content = v }
 
 -- TI, TG: what a slow store with recession `share` and content v lets go of its inflow; and what it then holds
 abbrev pub let_go : ℕ → ℕ → ℕ → ℕ

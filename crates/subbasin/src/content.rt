@@ -11,18 +11,21 @@ impl SubBasin {
     pub fn water(&self) -> u64
         ensures { result ≡ capped (water self.now) }
     {
-        let soil = amounts::times(self.fixed.area, water_depth(self.contents));
-        amounts::add(
-            amounts::add(soil, amounts::total(&self.line.waiting)),
-            self.channel,
-        )
+        let soil = self.fixed.area.saturating_mul(self.contents.depth());
+        let waiting = amounts::total(&self.line.waiting);
+        soil.saturating_add(waiting).saturating_add(self.channel)
     }
 }
 
-// The depth of all that waits over the sub-basin, in µm.
-fn water_depth(w: Contents) -> u64
-    ensures { result ≡ capped (water_depth w) }
-{
-    let tension = amounts::add(amounts::add(w.wu, w.wl), w.wd);
-    amounts::add(amounts::add(amounts::add(tension, w.g), w.vi), w.vg)
+impl Contents {
+    // The depth of all that waits over the sub-basin, in µm.
+    fn depth(&self) -> u64
+        ensures { result ≡ capped (water_depth self.now) }
+    {
+        let tension = self.wu.saturating_add(self.wl).saturating_add(self.wd);
+        tension
+            .saturating_add(self.g)
+            .saturating_add(self.vi)
+            .saturating_add(self.vg)
+    }
 }

@@ -4,6 +4,7 @@
 
 pub mod content;
 mod free_water;
+mod ground;
 mod lag;
 pub mod record;
 mod slices;

@@ -180,6 +180,7 @@ impl SubBasin {
     }
 
     // Whether 9 allows the record, with REACH up to m.
+    #[tactic(auto, using(crate::proofs::record::RecordLaws::some_number, crate::proofs::record::RecordLaws::none_number, crate::proofs::record::RecordLaws::words_fail, crate::proofs::record::RecordLaws::channel_fails, crate::proofs::record::RecordLaws::only_line))]
     pub fn allowed(&self, m: u64) -> bool
         ensures { result ≡ record_in m self.now }
     {
@@ -202,6 +203,7 @@ impl SubBasin {
 }
 
 // One more than k, where the k words before are inside and x is from lo to hi.
+#[tactic(auto, unfolding(crate::specs::Workers::further))]
 fn next(n: usize, k: usize, lo: u64, x: u64, hi: u64) -> usize
     requires { k ≤ 64 }
     ensures { result ≡ further n k lo x hi }

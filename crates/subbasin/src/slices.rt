@@ -1,14 +1,10 @@
 // Net rain in slices of 5 mm: document 02, No. 3. All in µm.
-ghost use Rattle.std.specs.Prelude.{◌≡◌, true, ◌+◌, ◌≤◌, ◌<◌};
-ghost use Rattle.curve.specs.Capacity.{curve_in, rise};
-ghost use Rattle.subbasin.specs.Workers.{SoilIn, LayersIn, FreeIn, RoomFor, soil_curve, free_curve};
-ghost use Rattle.subbasin.specs.Slices.{no_slice, added, after_slice, sliced};
+ghost use Rattle.std.specs.Prelude.{◌≡◌, ◌+◌, ◌≤◌, ◌<◌};
+ghost use Rattle.subbasin.specs.Workers.{LayersIn, RoomFor};
+ghost use Rattle.subbasin.specs.Slices.{slices, no_slice, added, after_slice, sliced};
 
-use crate::record::Parameters;
+use crate::ground::Ground;
 use crate::soil::{Layers, Runoff};
-use crate::{free_water, soil};
-use common::amounts::least;
-use curve::capacity::{Curve, Roots};
 
 // The depth of a slice; the last is the rest.
 pub const SLICE: u64 = 5000;
@@ -23,45 +19,42 @@ pub struct Sliced {
     pub kept: u64,
 }
 
-// Net rain pe on the layers w and the free water g, slice by slice.
-pub fn take_slices(roots: &Roots, p: Parameters, w: Layers, g: u64, pe: u64) -> Sliced
-    requires { SoilIn p × FreeIn p × LayersIn p w × (g ≤ p.sm) × (pe ≤ 1000000) }
-    ensures { result ≡ sliced p w g pe }
-{
-    if pe == 0 {
-        return begin(w, g);
+impl Ground<'_> {
+    // Net rain pe on the layers w and the free water g, slice by slice.
+    pub fn take_slices(&self, w: Layers, g: u64, pe: u64) -> Sliced
+        requires { LayersIn self.now.p.now w × (g ≤ self.now.p.now.sm) × (pe ≤ 1000000) }
+        ensures answered { result ≡ sliced self.now.p.now w g pe }
+        ensures kept_most { result.kept ≤ self.now.p.now.sm }
+        ensures direct_most { result.rs + result.rb ≤ 1100000 }
+    {
+        let mut given = begin(w, g);
+        for i in 0..count(pe) {
+            given = self.take_slice(given, SLICE.min(pe - i * SLICE));
+        }
+        given
     }
-    let soil = soil_curve(p);
-    let free = free_curve(p);
-    let mut given = begin(w, g);
-    for i in 0..(pe + (SLICE - 1)) / SLICE {
-        given = take_slice(roots, p, soil, free, given, least(SLICE, pe - i * SLICE));
+
+    // One slice.
+    #[tactic(auto, using(crate::proofs::soil::SoilLaws::runs, crate::proofs::free_water::FreeWaterLaws::keep_none, crate::proofs::free_water::FreeWaterLaws::keeps), unfolding(crate::specs::Slices::after_slice))]
+    fn take_slice(&self, s: Sliced, pe: u64) -> Sliced
+        requires { RoomFor self.now.p.now pe s × (0 < pe) }
+        ensures { result ≡ after_slice self.now.p.now pe s }
+    {
+        let ro = self.run_off(s.layers, pe);
+        if ro.r == 0 {
+            return add(s, ro, s.kept);
+        }
+        add(s, ro, self.keep_of(s.kept, pe, ro.r))
     }
-    given
 }
 
-// The curve of tension water.
-pub fn soil_curve(p: Parameters) -> Curve
-    requires { SoilIn p }
-    ensures { result ≡ soil_curve p }
+// How many slices pe is cut into.
+#[tactic(auto, unfolding(crate::specs::Slices::slices))]
+fn count(pe: u64) -> u64
+    requires { pe ≤ 1000000 }
+    ensures { result ≡ slices pe }
 {
-    Curve {
-        c: p.um + p.lm + p.dm,
-        m: soil::most_point(p),
-        e: p.bn,
-    }
-}
-
-// The curve of free water.
-fn free_curve(p: Parameters) -> Curve
-    requires { FreeIn p }
-    ensures { result ≡ free_curve p }
-{
-    Curve {
-        c: p.sm,
-        m: free_water::most_point(p),
-        e: p.xn,
-    }
+    (pe + (SLICE - 1)) / SLICE
 }
 
 fn begin(w: Layers, g: u64) -> Sliced
@@ -74,29 +67,6 @@ fn begin(w: Layers, g: u64) -> Sliced
         layers: w,
         kept: g,
     }
-}
-
-// One slice.
-fn take_slice(roots: &Roots, p: Parameters, soil: Curve, free: Curve, s: Sliced, pe: u64) -> Sliced
-    requires { SoilIn p × FreeIn p × (soil ≡ soil_curve p) × (free ≡ free_curve p) × RoomFor p pe s × (0 < pe) }
-    ensures { result ≡ after_slice p pe s }
-{
-    let w = s.layers;
-    let ro = soil::run_off(p, w, pe, raise(roots, soil, w.wu + w.wl + w.wd, pe));
-    if ro.r == 0 {
-        return add(s, ro, s.kept);
-    }
-    let top = raise(roots, free, free_water::level_of(p, s.kept, pe, ro.r), pe);
-    add(s, ro, free_water::keep_of(p, s.kept, pe, ro.r, top))
-}
-
-// What the curve holds once pe has come on top of w.
-pub fn raise(roots: &Roots, curve: Curve, w: u64, pe: u64) -> u64
-    requires { (curve_in curve.c curve.m curve.e ≡ true) × (w ≤ curve.c) × (pe ≤ 1000000) }
-    ensures { result ≡ rise curve.c curve.m curve.e w pe }
-{
-    let from = curve.ordinate(roots, w).unwrap();
-    curve.held(roots, least(from + pe, curve.m)).unwrap()
 }
 
 // A slice's runoff, and what is kept after it, added to what the slices before it gave.

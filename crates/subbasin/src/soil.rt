@@ -1,11 +1,11 @@
 // Evapotranspiration, runoff and the three layers of tension water: document 01, "One sub-basin, one step". All in µm.
 ghost use Rattle.std.specs.Prelude.{◌≡◌, ◌+◌, ◌-◌, ◌≤◌, ◌<◌};
-ghost use Rattle.curve.specs.Capacity.{rise};
 ghost use Rattle.subbasin.specs.Workers.{SoilIn, LayersIn};
 ghost use Rattle.subbasin.specs.Soil.{fallen, deeper, evaporated, tension, wm, mm, rb, gain, refilled, runoff};
+ghost use Rattle.subbasin.specs.Step.{layers_of};
 
-use crate::record::Parameters;
-use common::amounts::least;
+use crate::ground::Ground;
+use crate::record::{Contents, Parameters};
 use common::shares::ONE;
 
 // Water in the upper, lower and deep layer.
@@ -14,6 +14,18 @@ pub struct Layers {
     pub wu: u64,
     pub wl: u64,
     pub wd: u64,
+}
+
+impl From<Contents> for Layers {
+    ghost from_gives = { λ w l. l ≡ layers_of w };
+
+    fn from(w: Contents) -> Layers {
+        Layers {
+            wu: w.wu,
+            wl: w.wl,
+            wd: w.wd,
+        }
+    }
 }
 
 // Evapotranspiration by layer, net rain, and the layers that are left.
@@ -34,38 +46,84 @@ pub struct Runoff {
     pub layers: Layers,
 }
 
-// EP is e: from rain where it is enough, and otherwise from the layers, the upper one first.
-pub fn evaporate(p: Parameters, w: Layers, rain: u64, e: u64) -> Evaporated
-    requires { SoilIn p × LayersIn p w × (e ≤ 200000) }
-    ensures { result ≡ evaporated p w rain e }
-{
-    if e <= rain {
-        return Evaporated {
-            eu: e,
-            el: 0,
-            ed: 0,
-            pe: rain - e,
-            layers: w,
-        };
+impl Ground<'_> {
+    // EP is e: from rain where it is enough, and otherwise from the layers, the upper one first.
+    pub fn evaporate(&self, w: Layers, rain: u64, e: u64) -> Evaporated
+        requires { LayersIn self.now.p.now w × (e ≤ 200000) }
+        ensures answered { result ≡ evaporated self.now.p.now w rain e }
+        ensures inside { LayersIn self.now.p.now result.layers }
+        ensures pe_most { result.pe ≤ rain }
+    {
+        if e <= rain {
+            return Evaporated {
+                eu: e,
+                el: 0,
+                ed: 0,
+                pe: rain - e,
+                layers: w,
+            };
+        }
+        let short = e - rain;
+        let u = w.wu.min(short);
+        self.draw_deeper(w, rain, u, short - u)
     }
-    let short = e - rain;
-    let u = least(w.wu, short);
-    draw_deeper(p, w, rain, u, short - u)
-}
 
-// What the upper layer leaves wanting, d, is drawn from the lower and the deep layer.
-fn draw_deeper(p: Parameters, w: Layers, rain: u64, u: u64, d: u64) -> Evaporated
-    requires { SoilIn p × LayersIn p w × (d ≤ 200000) × (u ≤ w.wu) × (rain + u ≤ 200000) }
-    ensures { result ≡ deeper p w rain u d }
-{
-    if p.c * p.lm <= w.wl * ONE {
-        let el = least(w.wl, d * w.wl / p.lm);
-        return fall(w, rain, u, el, 0);
+    // What the upper layer leaves wanting, d, is drawn from the lower and the deep layer.
+    #[tactic(auto, unfolding(crate::specs::Soil::deeper))]
+    fn draw_deeper(&self, w: Layers, rain: u64, u: u64, d: u64) -> Evaporated
+        requires { LayersIn self.now.p.now w × (d ≤ 200000) × (u ≤ w.wu) × (rain + u ≤ 200000) }
+        ensures { result ≡ deeper self.now.p.now w rain u d }
+    {
+        let p = self.p;
+        if p.c * p.lm <= w.wl * ONE {
+            let el = w.wl.min(d * w.wl / p.lm);
+            return fall(w, rain, u, el, 0);
+        }
+        let q = p.c * d / ONE;
+        let el = w.wl.min(q);
+        let ed = w.wd.min(q - el);
+        fall(w, rain, u, el, ed)
     }
-    let q = p.c * d / ONE;
-    let el = least(w.wl, q);
-    let ed = least(w.wd, q - el);
-    fall(w, rain, u, el, ed)
+
+    // Runoff from the impervious part, and from what the soil can't hold of the rest of the net rain.
+    #[tactic(auto, using(crate::proofs::soil::SoilLaws::gain_in), unfolding(crate::specs::Soil::runoff, crate::specs::Soil::rb))]
+    pub fn run_off(&self, w: Layers, pe: u64) -> Runoff
+        requires { LayersIn self.now.p.now w × (0 < pe) × (pe ≤ 1000000) }
+        ensures { result ≡ runoff self.now.p.now w pe }
+    {
+        let rb = self.p.im * pe / ONE;
+        let gained = self.gain_of(w.wu + w.wl + w.wd, pe);
+        Runoff {
+            rb,
+            r: pe - rb - gained,
+            layers: self.fill(w, gained),
+        }
+    }
+
+    // What soil with tension water w gains of pe.
+    #[tactic(auto, using(crate::proofs::soil::SoilLaws::gain_fits), unfolding(crate::specs::Soil::gain, crate::specs::Soil::rb))]
+    pub fn gain_of(&self, w: u64, pe: u64) -> u64
+        requires { (w ≤ wm self.now.p.now) × (0 < pe) × (pe ≤ 1000000) }
+        ensures { let p = self.now.p.now in result ≡ gain p w pe (pe - rb p pe) }
+    {
+        let top = self.soil_top(w, pe);
+        (pe - self.p.im * pe / ONE).min(top - w)
+    }
+
+    // The gain fills the upper layer, then the lower, then the deep one.
+    #[tactic(auto, unfolding(crate::specs::Soil::refilled))]
+    fn fill(&self, w: Layers, gained: u64) -> Layers
+        requires { let p = self.now.p.now in LayersIn p w × (tension w + gained ≤ wm p) }
+        ensures { result ≡ refilled self.now.p.now w gained }
+    {
+        let upper = gained.min(self.p.um - w.wu);
+        let lower = (gained - upper).min(self.p.lm - w.wl);
+        Layers {
+            wu: w.wu + upper,
+            wl: w.wl + lower,
+            wd: w.wd + (gained - upper - lower),
+        }
+    }
 }
 
 fn fall(w: Layers, rain: u64, u: u64, el: u64, ed: u64) -> Evaporated
@@ -85,47 +143,11 @@ fn fall(w: Layers, rain: u64, u: u64, el: u64, ed: u64) -> Evaporated
     }
 }
 
-// Runoff from the impervious part, and from what the soil can't hold of the rest of the net rain: top is what the curve of tension
-// water holds once pe has come on top.
-pub fn run_off(p: Parameters, w: Layers, pe: u64, top: u64) -> Runoff
-    requires { SoilIn p × LayersIn p w × (0 < pe) × (pe ≤ 1000000) × (top ≡ rise (wm p) (mm p) p.bn (tension w) pe) }
-    ensures { result ≡ runoff p w pe }
-{
-    let rb = p.im * pe / ONE;
-    let gained = gain_of(p, w.wu + w.wl + w.wd, pe, top);
-    Runoff {
-        rb,
-        r: pe - rb - gained,
-        layers: fill(p, w, gained),
-    }
-}
-
-// What soil with tension water w gains of pe.
-pub fn gain_of(p: Parameters, w: u64, pe: u64, top: u64) -> u64
-    requires { SoilIn p × (w ≤ wm p) × (0 < pe) × (pe ≤ 1000000) × (top ≡ rise (wm p) (mm p) p.bn w pe) }
-    ensures { result ≡ gain p w pe (pe - rb p pe) }
-{
-    least(pe - p.im * pe / ONE, top - w)
-}
-
 // MM, the greatest point capacity of tension water.
-pub fn most_point(p: Parameters) -> u64
-    requires { SoilIn p }
-    ensures { result ≡ mm p }
+#[tactic(auto, unfolding(crate::specs::Soil::mm))]
+pub fn most_point(p: &Parameters) -> u64
+    requires { SoilIn p.now }
+    ensures { result ≡ mm p.now }
 {
     (p.um + p.lm + p.dm) * p.bn * ONE / (16 * (ONE - p.im))
-}
-
-// The gain fills the upper layer, then the lower, then the deep one.
-fn fill(p: Parameters, w: Layers, gained: u64) -> Layers
-    requires { LayersIn p w × (tension w + gained ≤ wm p) × (wm p ≤ 500000) }
-    ensures { result ≡ refilled p w gained }
-{
-    let upper = least(gained, p.um - w.wu);
-    let lower = least(gained - upper, p.lm - w.wl);
-    Layers {
-        wu: w.wu + upper,
-        wl: w.wl + lower,
-        wd: w.wd + (gained - upper - lower),
-    }
 }

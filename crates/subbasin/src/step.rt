@@ -4,13 +4,16 @@ ghost use Rattle.common.specs.Shares.{one};
 ghost use Rattle.common.specs.Weather.{WeatherIn};
 ghost use Rattle.curve.specs.Store.{most_inflow, most_content};
 ghost use Rattle.subbasin.specs.Record.{record_in};
-ghost use Rattle.subbasin.specs.Step.{holds, let_go, with_drained, stepped, as_stepped, sub_call, AsBefore};
+ghost use Rattle.subbasin.specs.FreeWater.{drained};
+ghost use Rattle.subbasin.specs.Slices.{sliced};
+ghost use Rattle.subbasin.specs.Step.{holds, let_go, evaporated_of, with_drained, as_stepped, call_in, sub_call, AsBefore};
 
 use crate::free_water::Drained;
+use crate::ground::Ground;
+use crate::lag;
 use crate::record::SubBasin;
 use crate::slices::Sliced;
-use crate::soil::{Evaporated, Layers};
-use crate::{free_water, lag, slices, soil};
+use crate::soil::Evaporated;
 use common::refusal::Refusal;
 use common::shares::ONE;
 use common::weather::{MOST_PAN, MOST_RAIN, Weather};
@@ -33,7 +36,19 @@ pub struct Flows {
 }
 
 impl SubBasin {
+    // Whether a step under this weather is accepted.
+    #[tactic(auto, unfolding(crate::specs::Step::call_in))]
+    pub fn accepts(&self, weather: Weather) -> bool
+        ensures { result ≡ call_in self.now weather }
+    {
+        if MOST_RAIN < weather.rain {
+            return false;
+        }
+        weather.pan <= MOST_PAN && self.allowed(self.fixed.reach)
+    }
+
     // One step under the weather of a line. A step that is refused leaves the record as it was.
+    #[tactic(auto, using(crate::proofs::step::CallLaws::call_whole))]
     pub fn step(&mut self, weather: Weather) -> Result<Flows, Refusal>
         ensures { (as_stepped self.new result ≡ sub_call self.old weather) × AsBefore self.old weather (as_stepped self.new result) }
     {
@@ -42,38 +57,32 @@ impl SubBasin {
     }
 
     // The same with a table of roots that is lent (curve::capacity), for whoever takes many steps.
+    #[tactic(auto, using(crate::proofs::step::CallLaws::called, crate::proofs::step::StageLaws::chained), unfolding(crate::specs::Step::sub_call))]
     pub fn step_with(&mut self, roots: &Roots, weather: Weather) -> Result<Flows, Refusal>
         ensures { as_stepped self.new result ≡ sub_call self.old weather }
     {
-        if MOST_RAIN < weather.rain {
+        if !self.accepts(weather) {
             return Err(Refusal::OutOfRange);
         }
-        if MOST_PAN < weather.pan {
-            return Err(Refusal::OutOfRange);
-        }
-        if !self.allowed(self.fixed.reach) {
-            return Err(Refusal::OutOfRange);
-        }
-        Ok(self.run(roots, weather))
+        let (ev, sl, dr) = self.rain_on(roots, weather);
+        Ok(self.route(ev, sl, dr))
     }
 
-    // The stages in order: evapotranspiration, net rain in slices, what drains, then the way to the outlet.
-    fn run(&mut self, roots: &Roots, weather: Weather) -> Flows
-        requires { (record_in self.old.fixed.reach self.old ≡ true) × WeatherIn weather }
-        ensures { as_stepped self.new (Ok result) ≡ stepped self.old weather }
+    // The stages of soil and free water in order: evapotranspiration, net rain in slices, and what drains.
+    #[tactic(auto, using(crate::proofs::step::CallLaws::called))]
+    fn rain_on(&self, roots: &Roots, weather: Weather) -> (Evaporated, Sliced, Drained)
+        requires { call_in self.now weather ≡ true }
+        ensures evaporates { result.0 ≡ evaporated_of self.now weather }
+        ensures slices { result.1 ≡ sliced self.now.fixed result.0.layers self.now.contents.g result.0.pe }
+        ensures drains { result.2 ≡ drained self.now.fixed result.1.kept }
+        ensures direct_most { result.1.rs + result.1.rb ≤ 1100000 }
+        ensures slow_most { result.2.ri + result.2.rg ≤ 100000 }
     {
-        let p = self.fixed;
-        let w = self.contents;
-        let layers = Layers {
-            wu: w.wu,
-            wl: w.wl,
-            wd: w.wd,
-        };
-        let ev = soil::evaporate(p, layers, weather.rain, p.k * weather.pan / ONE);
-        let left = ev.layers;
-        let sl = slices::take_slices(roots, p, left, w.g, ev.pe);
-        let dr = free_water::drain(p, sl.kept);
-        self.route(ev, sl, dr)
+        let ground = Ground::of(roots, self);
+        let ev = ground.evaporate(self.contents.into(), weather.rain, ground.ep(weather.pan));
+        let sl = ground.take_slices(ev.layers, self.contents.g, ev.pe);
+        let dr = ground.drain(sl.kept);
+        (ev, sl, dr)
     }
 
     // The slow stores, the lag line and the channel.
@@ -82,13 +91,11 @@ impl SubBasin {
         requires { (record_in self.old.fixed.reach self.old ≡ true) × (sl.rs + sl.rb ≤ 1100000) × (dr.ri + dr.rg ≤ 100000) }
         ensures { as_stepped self.new (Ok result) ≡ with_drained self.old ev sl dr }
     {
-        let p = self.fixed;
-        let line = self.line;
-        let ti = pass(p.ci, &mut self.contents.vi, dr.ri);
-        let tg = pass(p.cg, &mut self.contents.vg, dr.rg);
-        let t = (sl.rs + sl.rb + ti + tg) * p.area;
-        let q = pass(p.cs, &mut self.channel, lag::leave(line, t));
-        self.line = lag::enter(line, t);
+        let ti = pass(self.fixed.ci, &mut self.contents.vi, dr.ri);
+        let tg = pass(self.fixed.cg, &mut self.contents.vg, dr.rg);
+        let t = (sl.rs + sl.rb + ti + tg) * self.fixed.area;
+        let q = pass(self.fixed.cs, &mut self.channel, lag::leave(&self.line, t));
+        self.line = lag::enter(self.line, t);
         let layers = sl.layers;
         self.contents.wu = layers.wu;
         self.contents.wl = layers.wl;

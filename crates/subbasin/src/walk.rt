@@ -3,13 +3,10 @@
 ghost use Rattle.std.specs.Prelude.{◌≡◌, ◌≤◌};
 ghost use Rattle.subbasin.specs.Soil.{wm};
 ghost use Rattle.subbasin.specs.Slices.{most_slice};
-ghost use Rattle.subbasin.specs.Workers.{SoilIn, soil_curve, soaked, unwalked, climbed, walked_to, net_rain};
+ghost use Rattle.subbasin.specs.Workers.{soaked, unwalked, climbed, walked_to, net_rain};
 
-use crate::record::Parameters;
+use crate::ground::Ground;
 use crate::slices::SLICE;
-use crate::{slices, soil};
-use common::amounts::least;
-use curve::capacity::{Curve, Roots};
 
 // At a rain: PE, its whole slices, the tension water after these, and after all of PE.
 #[derive(Drop)]
@@ -20,52 +17,57 @@ pub struct Walk {
     pub w: u64,
 }
 
-// Before the first rain.
-pub fn begin(w: u64) -> Walk
-    ensures { result ≡ unwalked w }
-{
-    Walk {
-        pe: 0,
-        slices: 0,
-        whole: w,
-        w,
+impl Walk {
+    // Before the first rain.
+    pub fn begin(w: u64) -> Walk
+        ensures { result ≡ unwalked w }
+    {
+        Walk {
+            pe: 0,
+            slices: 0,
+            whole: w,
+            w,
+        }
     }
-}
 
-// On to the rain of k millimetres, where EP is e.
-pub fn go_on(roots: &Roots, p: Parameters, soil: Curve, e: u64, before: Walk, k: u64) -> Walk
-    requires { SoilIn p × (soil ≡ soil_curve p) × (before.whole ≤ wm p) × (k ≤ 1000) }
-    ensures { result ≡ walked_to p (net_rain e k) before }
-{
-    let rain = 1000 * k;
-    let pe = rain - least(rain, e);
-    let whole = climb(roots, p, soil, before, pe / SLICE);
-    Walk {
-        pe,
-        slices: pe / SLICE,
-        whole,
-        w: soak(roots, p, soil, whole, pe % SLICE),
+    // On to the rain of k millimetres, where EP is e.
+    #[tactic(auto, using(crate::proofs::walk::WalkLaws::climbed_in), unfolding(crate::specs::Workers::walked_to))]
+    pub fn go_on(self, ground: &Ground, e: u64, k: u64) -> Walk
+        requires { (self.whole ≤ wm ground.now.p.now) × (k ≤ 1000) }
+        ensures { result ≡ walked_to ground.now.p.now (net_rain e k) self }
+    {
+        let pe = (1000 * k).saturating_sub(e);
+        let slices = pe / SLICE;
+        let whole = self.climb(ground, slices);
+        Walk {
+            pe,
+            slices,
+            whole,
+            w: soak(ground, whole, pe % SLICE),
+        }
     }
-}
 
-// The tension water after so many whole slices, one more than before at most.
-fn climb(roots: &Roots, p: Parameters, soil: Curve, before: Walk, slices: u64) -> u64
-    requires { SoilIn p × (soil ≡ soil_curve p) × (before.whole ≤ wm p) }
-    ensures { result ≡ climbed p before.whole before.slices slices }
-{
-    if before.slices < slices {
-        return soak(roots, p, soil, before.whole, SLICE);
+    // The tension water after so many whole slices, one more than before at most.
+    #[tactic(auto, unfolding(crate::specs::Workers::climbed))]
+    fn climb(&self, ground: &Ground, slices: u64) -> u64
+        requires { self.now.whole ≤ wm ground.now.p.now }
+        ensures { result ≡ climbed ground.now.p.now self.now.whole self.now.slices slices }
+    {
+        if self.slices < slices {
+            return soak(ground, self.whole, SLICE);
+        }
+        self.whole
     }
-    before.whole
 }
 
 // The tension water w after a slice of pe.
-fn soak(roots: &Roots, p: Parameters, soil: Curve, w: u64, pe: u64) -> u64
-    requires { SoilIn p × (soil ≡ soil_curve p) × (w ≤ wm p) × (pe ≤ most_slice) }
-    ensures { result ≡ soaked p pe w }
+#[tactic(auto, using(crate::proofs::walk::WalkLaws::soaked_none, crate::proofs::walk::WalkLaws::soaked_in), unfolding(crate::specs::Workers::soaked))]
+fn soak(ground: &Ground, w: u64, pe: u64) -> u64
+    requires { (w ≤ wm ground.now.p.now) × (pe ≤ most_slice) }
+    ensures { result ≡ soaked ground.now.p.now pe w }
 {
     if pe == 0 {
         return w;
     }
-    w + soil::gain_of(p, w, pe, slices::raise(roots, soil, w, pe))
+    w + ground.gain_of(w, pe)
 }

@@ -2,46 +2,42 @@
 ghost use Rattle.std.specs.Prelude.{◌≡◌, ◌≤◌};
 ghost use Rattle.subbasin.specs.Soil.{wm};
 ghost use Rattle.subbasin.specs.Yields.{yield, Answers, as_answer, own_refusal};
-ghost use Rattle.subbasin.specs.Workers.{SoilIn, unsoaked};
+ghost use Rattle.subbasin.specs.Workers.{unsoaked};
 
-use crate::record::{Parameters, SubBasin};
-use crate::{slices, walk};
+use crate::ground::Ground;
+use crate::record::SubBasin;
+use crate::walk::Walk;
 use common::refusal::Refusal;
-use common::shares::ONE;
-use common::weather::MOST_PAN;
+use common::weather::Weather;
 use curve::capacity;
-use curve::capacity::Roots;
 
 // The most millimetres of a rain.
 const MOST_MM: u64 = 1000;
 
 impl SubBasin {
     // A rain for which RB + R of the next step, with this pan depth, is at least the wanted depth, or none.
+    #[tactic(auto, using(crate::proofs::step::CallLaws::called))]
     pub fn rain_for(&self, pan: u64, wanted: u64) -> Result<Option<u64>, Refusal>
         ensures { Answers (own_refusal self.now pan) (yield self.now pan) wanted (as_answer result) }
     {
-        let p = self.fixed;
-        if MOST_PAN < pan {
-            return Err(Refusal::OutOfRange);
-        }
-        if !self.allowed(p.reach) {
+        if !self.accepts(Weather { rain: 0, pan }) {
             return Err(Refusal::OutOfRange);
         }
         let roots = capacity::printed_roots();
-        let c = self.contents;
-        Ok(search(&roots, p, c.wu + c.wl + c.wd, p.k * pan / ONE, wanted))
+        let ground = Ground::of(&roots, self);
+        let c = &self.contents;
+        Ok(search(&ground, c.wu + c.wl + c.wd, ground.ep(pan), wanted))
     }
 }
 
 // The 1,001 rains in turn on tension water w where EP is e, up to the first that does.
-fn search(roots: &Roots, p: Parameters, w: u64, e: u64, wanted: u64) -> Option<u64>
-    requires { SoilIn p × (w ≤ wm p) }
-    ensures { Answers 0 (unsoaked p w e) wanted (as_answer (Ok result)) }
+fn search(ground: &Ground, w: u64, e: u64, wanted: u64) -> Option<u64>
+    requires { w ≤ wm ground.now.p.now }
+    ensures { Answers 0 (unsoaked ground.now.p.now w e) wanted (as_answer (Ok result)) }
 {
-    let soil = slices::soil_curve(p);
-    let mut walk = walk::begin(w);
+    let mut walk = Walk::begin(w);
     for k in 0..=MOST_MM {
-        walk = walk::go_on(roots, p, soil, e, walk, k);
+        walk = walk.go_on(ground, e, k);
         if wanted <= walk.pe + w - walk.w {
             return Some(k);
         }

@@ -37,10 +37,6 @@ further_not n k lo x hi ne =
     let l = within_limits lo x hi b.1 in
     ne (eqb-true n k b.0) l.0 l.1)))
 
-pub further_more : (n k lo x hi : ℕ) → n ≡ k → lo ≤ x → x ≤ hi → k + 1 ≡ further n k lo x hi
-unfolding further
-further_more n k lo x hi e l h = sym (rw (eq-eqb n k e, within_in lo x hi l h))
-
 leading_stays : (n k : ℕ) (ws : List Word) → n < k → leading n k ws ≡ n
 leading_stays n k [] h = refl
 leading_stays n k (w ∷ ws) h =

@@ -40,6 +40,10 @@ pub slice_some : (pe i : ℕ) → i < slices pe → 0 < slice pe i
 unfolding slices slice
 slice_some pe i h = omega arith
 
+pub slice_starts : (pe i : ℕ) → i < slices pe → i * most_slice ≤ pe
+unfolding slices
+slice_starts pe i h = omega arith
+
 below_all : (pe : ℕ) → below pe (slices pe) ≡ pe
 unfolding slices
 below_all pe = omega arith

@@ -1,7 +1,7 @@
 -- The sub-basin call: accepted inside its limits, refused outside. Assumes nothing.
 use Rattle.std.specs.Prelude.{Result, Ok, Err, IsOk}
 use mathlib.Core.Path.{◌≡◌, refl, sym, ap, ◌∙◌}
-use mathlib.Core.Bool.{true, cond, ◌&&◌}
+use mathlib.Core.Bool.{true, false, cond, ◌&&◌}
 use Prim.Native.Nat.{◌≤◌}
 use native.Mathlib.Omega.{arith}
 use lib.Dec.{leb}
@@ -25,25 +25,41 @@ pub record CallIn (s : SubBasin) (w : Weather) : Type 0 where
   pub in_record : RecordIn s.fixed.reach s
   pub in_weather : WeatherIn w
 
+-- the tests that it passed
+pub record Called (s : SubBasin) (w : Weather) : Type 0 where
+  pub allowed : record_in s.fixed.reach s ≡ true
+  pub rain_most : w.rain ≤ most_rain
+  pub pan_most : w.pan ≤ most_pan
+
 module _ (s : SubBasin) (w : Weather) where
-  call_limits : call_in s w ≡ true → CallIn s w
+  pub called : call_in s w ≡ true → Called s w
   unfolding call_in
-  call_limits t =
+  called t =
       let a = parts (record_in s.fixed.reach s && leb w.rain most_rain) (leb w.pan most_pan) t in
       let b = parts (record_in s.fixed.reach s) (leb w.rain most_rain) a.0 in
-      record {
-        in_record = record_limits s.fixed.reach s b.0;
-        in_weather = record { rain_most = leb-true w.rain most_rain b.1; pan_most = leb-true w.pan most_pan a.1 };
-      }
+      record { allowed = b.0; rain_most = leb-true w.rain most_rain b.1; pan_most = leb-true w.pan most_pan a.1 }
+
+  call_limits : call_in s w ≡ true → CallIn s w
+  call_limits t =
+      let c = called t in
+      record { in_record = record_limits s.fixed.reach s c.allowed; in_weather = record { rain_most = c.rain_most; pan_most = c.pan_most } }
+
+  pub step_in : call_in s w ≡ true → sub_call s w ≡ stepped s w
+  unfolding sub_call
+  step_in t = rw t
+
+  pub step_out : call_in s w ≡ false → sub_call s w ≡ returned s
+  unfolding sub_call
+  step_out t = rw t
 
   pub step_accepts : CallIn s w → sub_call s w ≡ stepped s w
-  unfolding sub_call call_in
+  unfolding call_in
   step_accepts h =
-      rw (both (both (record_in_lem s.fixed.reach s h.in_record) (le-leb w.rain most_rain h.in_weather.rain_most)) (le-leb w.pan most_pan h.in_weather.pan_most))
+      step_in
+      (both (both (record_in_lem s.fixed.reach s h.in_record) (le-leb w.rain most_rain h.in_weather.rain_most)) (le-leb w.pan most_pan h.in_weather.pan_most))
 
   pub step_refuses : (CallIn s w → ⊥) → sub_call s w ≡ returned s
-  unfolding sub_call
-  step_refuses n = rw (refuted (call_in s w) (λ t. n (call_limits t)))
+  step_refuses n = step_out (refuted (call_in s w) (λ t. n (call_limits t)))
 
   -- an accepted call was inside its limits
   pub step_accepted : (sub_call s w).number ≡ 0 → CallIn s w

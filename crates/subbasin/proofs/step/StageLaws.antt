@@ -1,22 +1,32 @@
 -- One step in two halves: the soil's water as depths, the stages' laws added up; and the stores, the line and the channel.
 -- Assumes nothing.
-use mathlib.Core.Path.{◌≡◌, refl}
+use mathlib.Core.Path.{◌≡◌, refl, ap, ◌∙◌}
 use Prim.Native.Nat.{ℕ, ◌+◌, ◌*◌, ◌≤◌}
 use native.Mathlib.Omega.{arith}
 use Rattle.common.specs.declared.weather.Weather.{Weather}
 use Rattle.common.specs.Weather.{WeatherIn}
 use Rattle.subbasin.specs.declared.record.SubBasin.{SubBasin}
+use Rattle.subbasin.specs.declared.soil.Evaporated.{Evaporated}
+use Rattle.subbasin.specs.declared.slices.Sliced.{Sliced}
+use Rattle.subbasin.specs.declared.free_water.Drained.{Drained}
 use Rattle.subbasin.specs.Record.{words}
 use Rattle.subbasin.specs.Workers.{SoilIn, LayersIn, FreeIn}
 use Rattle.subbasin.specs.Soil.{ep, evaporated}
 use Rattle.subbasin.specs.FreeWater.{drained}
 use Rattle.subbasin.specs.Slices.{sliced}
 use Rattle.subbasin.specs.Lag.{leaving, entered}
-use Rattle.subbasin.specs.Step.{Stepped, layers_of, let_go, holds, stepped}
+use Rattle.subbasin.specs.Step.{Stepped, layers_of, let_go, holds, evaporated_of, with_drained, with_slices, with_evaporated, stepped}
 use Rattle.common.proofs.Limits.{Within}
 use Rattle.subbasin.proofs.soil.SoilLaws.{soil_in, layers_in, Evaporates, evaporation, evaporation_in, ep_most}
 use Rattle.subbasin.proofs.free_water.FreeWaterLaws.{free_in, g_in, Drains, drained_drains}
 use Rattle.subbasin.proofs.slices.SlicesLaws.{Falls, sliced_falls}
+
+-- the stages in a chain
+pub chained : (s : SubBasin) (w : Weather) {ev : Evaporated} {sl : Sliced} {dr : Drained} → ev ≡ evaporated_of s w
+    → sl ≡ sliced s.fixed ev.layers s.contents.g ev.pe → dr ≡ drained s.fixed sl.kept → with_drained s ev sl dr ≡ stepped s w
+unfolding stepped
+chained s w {ev} {sl} ev-is sl-is dr-is =
+    ap (λ (x : Drained). with_drained s ev sl x) dr-is ∙ ap (λ (x : Sliced). with_slices s ev x) sl-is ∙ ap (λ (x : Evaporated). with_evaporated s x) ev-is
 
 -- Rain and the soil's water are evapotranspiration, runoff (RB + RS + RI + RG) and the soil's water after; depths in µm.
 pub record Depths (s : SubBasin) (w : Weather) (st : Stepped) : Type 0 where

@@ -1,14 +1,14 @@
 -- What is right of an answer: a rain that does, none, or a refusal; and of two ways to say what the rains yield. Assumes nothing.
 use mathlib.Core.Path.{◌≡◌, refl, sym}
-use mathlib.Core.Bool.{true, false, ◌&&◌, and-false, true≢false}
+use mathlib.Core.Bool.{true, false, true≢false}
 use Prim.Native.Nat.{ℕ, ◌≤◌, ◌<◌}
 use native.Mathlib.Omega.{arith}
-use borrow.Author.Tests.{le-leb, lt-leb}
+use borrow.Author.Tests.{le-leb}
 use Rattle.common.specs.Weather.{most_pan}
 use Rattle.subbasin.specs.declared.record.SubBasin.{SubBasin}
 use Rattle.subbasin.specs.Record.{record_in}
 use Rattle.subbasin.specs.Step.{call_in}
-use Rattle.subbasin.specs.Yields.{Answer, most_millimetres, Answers, refused, own_refusal}
+use Rattle.subbasin.specs.Yields.{Answer, most_millimetres, raining, Answers, refused, own_refusal}
 
 module _ (f : ℕ → ℕ) (wanted : ℕ) where
   pub found : (k : ℕ) → k ≤ most_millimetres → wanted ≤ f k → Answers 0 f wanted (record { number = 0; place = 0; none = false; rain = k })
@@ -65,10 +65,10 @@ module _ (s : SubBasin) (pan : ℕ) where
   unfolding own_refusal call_in
   own_none r h = rw (r, le-leb pan most_pan h)
 
-  pub own_pan : most_pan < pan → own_refusal s pan ≡ 10
-  unfolding own_refusal call_in
-  own_pan h = rw (lt-leb pan most_pan h, and-false (record_in s.fixed.reach s && true))
+  pub own_zero : call_in s (raining 0 pan) ≡ true → own_refusal s pan ≡ 0
+  unfolding own_refusal
+  own_zero t = rw t
 
-  pub own_record : record_in s.fixed.reach s ≡ false → own_refusal s pan ≡ 10
-  unfolding own_refusal call_in
-  own_record r = rw r
+  pub own_ten : call_in s (raining 0 pan) ≡ false → own_refusal s pan ≡ 10
+  unfolding own_refusal
+  own_ten n = rw n

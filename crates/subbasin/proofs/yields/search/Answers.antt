@@ -66,9 +66,7 @@ loop-k-init c = begins _ _ _ _ _ (omega arith)
 
 pub go_on-walk-requires : goal.go_on-walk-requires
 go_on-walk-requires c = (
-  c.requires.0,
-  c.soil_curve-soil.ensures,
-  whole_in _ _ _ _ _ c.requires.0 c.requires.1 c.begin-walk.ensures c.loop-k.invariant,
+  whole_in _ _ _ _ _ c.args.ground.now.soil_in c.requires c.begin-walk.ensures c.loop-k.invariant,
   omega (arith, c.loop-k-test.true),
 )
 
@@ -76,25 +74,25 @@ pub overflow_add-walk : goal.overflow_add-walk
 overflow_add-walk c =
     omega (
       arith,
-      pe_fits _ _ _ _ _ c.requires.0 c.requires.1 c.begin-walk.ensures c.loop-k.invariant (omega arith) c.go_on-walk.ensures
+      pe_fits _ _ _ _ _ c.args.ground.now.soil_in c.requires c.begin-walk.ensures c.loop-k.invariant (omega arith) c.go_on-walk.ensures
           (omega (arith, c.loop-k-test.true)),
     )
 
 pub overflow_sub-walk : goal.overflow_sub-walk
 overflow_sub-walk c =
-    w_fits _ _ _ _ _ c.requires.0 c.requires.1 c.begin-walk.ensures c.loop-k.invariant
+    w_fits _ _ _ _ _ c.args.ground.now.soil_in c.requires c.begin-walk.ensures c.loop-k.invariant
     (omega arith) c.go_on-walk.ensures
 
 pub returns-then-wanted-walk : goal.returns-then-wanted-walk
 returns-then-wanted-walk c =
-    does _ _ _ _ _ c.requires.0 c.requires.1 c.begin-walk.ensures c.loop-k.invariant
+    does _ _ _ _ _ c.args.ground.now.soil_in c.requires c.begin-walk.ensures c.loop-k.invariant
     (omega arith) c.go_on-walk.ensures (omega (arith, c.loop-k-test.true)) c.if-wanted-walk.true
 
 pub loop-k-preserved : goal.loop-k-preserved
 loop-k-preserved c =
-    again _ _ _ _ _ c.requires.0 c.requires.1 c.begin-walk.ensures c.loop-k.invariant
+    again _ _ _ _ _ c.args.ground.now.soil_in c.requires c.begin-walk.ensures c.loop-k.invariant
     (omega arith) c.go_on-walk.ensures (omega (arith, c.loop-k-test.true)) c.if-wanted-walk.false (omega arith)
 
 pub returns : goal.returns
 returns c =
-    none_does _ _ _ _ _ c.requires.0 c.requires.1 c.begin-walk.ensures c.loop-k.invariant (omega (arith, c.loop-k-test.false))
+    none_does _ _ _ _ _ c.args.ground.now.soil_in c.requires c.begin-walk.ensures c.loop-k.invariant (omega (arith, c.loop-k-test.false))

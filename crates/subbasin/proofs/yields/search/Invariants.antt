@@ -13,7 +13,7 @@ pub record Searching (p : Parameters) (w e wanted : ℕ) (from : Walk) (k : ℕ)
   pub trying : Trying (λ i. ltb (unsoaked p w e i) wanted) 1001 k
 
 abbrev pub invariant-loop-k : goal.invariant-loop-k
-invariant-loop-k l = Searching l.p l.w l.e l.wanted l.initial.walk l.k l.walk
+invariant-loop-k l = Searching l.ground.p.now l.w l.e l.wanted l.initial.walk l.k l.walk
 
 abbrev pub decreases-loop-k : goal.decreases-loop-k
 decreases-loop-k l = 1001 - l.k

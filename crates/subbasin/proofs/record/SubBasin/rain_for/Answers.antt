@@ -1,59 +1,33 @@
 -- `subbasin::record::SubBasin::rain_for` meets its contract: what the walk leaves of each rain is what it yields. Assumes nothing.
 use mathlib.Core.Path.{◌≡◌, refl, sym, ◌∙◌}
 use mathlib.Core.Bool.{true}
-use Prim.Native.Nat.{ℕ, ◌*◌, ◌/◌, ◌≤◌}
+use Prim.Native.Nat.{ℕ}
 use native.Mathlib.Omega.{arith}
-use Rattle.common.specs.Shares.{one}
-use Rattle.common.specs.Weather.{most_pan}
+use Rattle.subbasin.specs.declared.record.Parameters.{Parameters}
 use Rattle.subbasin.specs.declared.record.SubBasin.{SubBasin}
-use Rattle.subbasin.specs.Record.{record_in}
 use Rattle.subbasin.specs.Soil.{tension, ep}
-use Rattle.subbasin.specs.Step.{layers_of}
-use Rattle.subbasin.specs.Yields.{Answer, yield, Answers, refused, own_refusal}
-use Rattle.subbasin.specs.Workers.{SoilIn, LayersIn, unsoaked}
-use Rattle.subbasin.proofs.record.RecordLaws.{RecordIn, record_limits}
-use Rattle.subbasin.proofs.soil.SoilLaws.{soil_in, layers_in, pan_fits}
+use Rattle.subbasin.specs.Step.{layers_of, call_in}
+use Rattle.subbasin.specs.Yields.{Answer, raining, yield, Answers, refused, own_refusal}
+use Rattle.subbasin.specs.Workers.{unsoaked}
+use Rattle.subbasin.proofs.record.RecordLaws.{record_limits}
+use Rattle.subbasin.proofs.step.CallLaws.{called}
 use Rattle.subbasin.proofs.walk.WalkLaws.{yield_is}
-use Rattle.subbasin.proofs.yields.YieldsLaws.{refuses, answers_same, own_pan, own_record, own_none}
+use Rattle.subbasin.proofs.yields.YieldsLaws.{refuses, answers_same, own_zero, own_ten}
 use Rattle.subbasin.proofs.record.SubBasin.rain_for.Goals as goal
 
 refused_by : (s : SubBasin) (pan wanted : ℕ) {a : Answer} → own_refusal s pan ≡ 10 → a ≡ refused 10 → Answers (own_refusal s pan) (yield s pan) wanted a
 refused_by s pan wanted ten e = rw ten (refuses (yield s pan) wanted 10 (λ z. omega arith) e)
 
-module _ (s : SubBasin) (allowed : record_in s.fixed.reach s ≡ true) where
-  fits : RecordIn s.fixed.reach s
-  fits = record_limits _ _ allowed
+accepted : (s : SubBasin) (pan wanted : ℕ) {p : Parameters} {e : ℕ} (a : Answer) → call_in s (raining 0 pan) ≡ true → p ≡ s.fixed → e ≡ ep p pan
+    → Answers 0 (unsoaked p (tension (layers_of s.contents)) e) wanted a → Answers (own_refusal s pan) (yield s pan) wanted a
+accepted s pan wanted a t p-is e-is h =
+    rw (own_zero s pan t)
+    (answers_same 0 _ (yield s pan) wanted a
+    (λ k. rw (e-is, p-is) (sym (yield_is _ _ s pan k (record_limits _ _ (called s (raining 0 pan) t).allowed).in_words))) h)
 
-  soil : SoilIn s.fixed
-  soil = soil_in _ _ s fits.in_words
-
-  layers : LayersIn s.fixed (layers_of s.contents)
-  layers = layers_in _ _ s fits.in_words
-
-  accepted : (pan wanted : ℕ) (a : Answer) → pan ≤ most_pan → Answers 0 (unsoaked s.fixed (tension (layers_of s.contents)) (s.fixed.k * pan / one)) wanted a
-      → Answers (own_refusal s pan) (yield s pan) wanted a
-  unfolding ep
-  accepted pan wanted a l h = rw (own_none s pan allowed l) (answers_same 0 _ (yield s pan) wanted a (λ k. sym (yield_is _ _ s pan k fits.in_words)) h)
-
-pub returns-then-pan-gt-MOST_PAN : goal.returns-then-pan-gt-MOST_PAN
-returns-then-pan-gt-MOST_PAN c = refused_by _ _ _ (own_pan _ _ c.if-pan-gt-MOST_PAN.true) refl
-
-pub returns-then-not-allowed : goal.returns-then-not-allowed
-returns-then-not-allowed c = refused_by _ _ _ (own_record _ _ (sym c.allowed.ensures ∙ c.if-not-allowed.true)) refl
-
-pub overflow_add-c : goal.overflow_add-c
-overflow_add-c c = let here = sym c.allowed.ensures ∙ c.if-not-allowed.false in omega (arith, soil _ here, layers _ here)
-
-pub overflow_add-c-2 : goal.overflow_add-c-2
-overflow_add-c-2 c = let here = sym c.allowed.ensures ∙ c.if-not-allowed.false in omega (arith, soil _ here, layers _ here)
-
-pub overflow_mul-p : goal.overflow_mul-p
-overflow_mul-p c =
-    omega (arith, pan_fits _ (soil _ (sym c.allowed.ensures ∙ c.if-not-allowed.false)) _ c.if-pan-gt-MOST_PAN.false)
-
-pub search-requires : goal.search-requires
-search-requires c = let here = sym c.allowed.ensures ∙ c.if-not-allowed.false in (soil _ here, omega (arith, layers _ here))
+pub returns-then-not-accepts : goal.returns-then-not-accepts
+returns-then-not-accepts c = refused_by _ _ _ (own_ten _ _ (sym c.accepts.ensures ∙ c.if-not-accepts.true)) refl
 
 pub returns : goal.returns
 returns c =
-    accepted _ (sym c.allowed.ensures ∙ c.if-not-allowed.false) _ _ _ c.if-pan-gt-MOST_PAN.false c.search.ensures
+    accepted _ _ _ _ (sym c.accepts.ensures ∙ c.if-not-accepts.false) c.of-ground.ensures.words c.ep.ensures.answered c.search.ensures

@@ -32,5 +32,5 @@ whole s ed es ew eb ec ea =
 
 pub returns : goal.returns
 returns c =
-    whole _ c.water_depth.ensures c.times-soil.ensures c.total.ensures
-    c.add.ensures (omega arith) c.add-2.ensures
+    whole _ c.depth.ensures c.saturating_mul-soil.ensures c.total-waiting.ensures
+    c.saturating_add.ensures (omega arith) c.saturating_add-2.ensures
