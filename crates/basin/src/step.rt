@@ -83,8 +83,8 @@ impl Basin {
         ensures { as_outcome self.new result ≡ cond (basin_in self.old) (taken self.old (as_forcing (Ok readings.now))) (refused_step self.old 9 0) }
     {
         let mut subs = self.subs;
-        let stepped = step_subs(roots, &mut subs, &readings.weather, self.n, self.m)?;
-        let routed = network::route(&mut self.reaches, stepped.sent, self.m);
+        let mut stepped = step_subs(roots, &mut subs, &readings.weather, self.n, self.m)?;
+        let routed = network::route(&mut self.reaches, &mut stepped.sent, self.m);
         self.subs = subs;
         Ok(Report {
             rain: stepped.rain,
