@@ -19,7 +19,7 @@ use Rattle.basin.specs.declared.state.Basin.{Basin}
 use Rattle.basin.specs.declared.step.Subs.{Subs}
 use Rattle.basin.specs.declared.step.Turn.{Turn}
 use Rattle.basin.specs.Reach.{blank_reach, reach_in}
-use Rattle.basin.specs.State.{sub_at}
+use Rattle.basin.specs.State.{most_subs, most_reaches, sub_at}
 use Rattle.basin.specs.Limits.{subs_used, subs_blank, reaches_used, reaches_blank}
 use Rattle.basin.specs.Network.{g_of, flows, reaches_after}
 use Rattle.basin.specs.Step.{step_of, sent_by, rain_volume, loss_volume}
@@ -116,6 +116,12 @@ pub record Flowed (m : ℕ) (rs : List Reach) (sent : List ℕ) (after : List Re
   pub held_most : held ≤ 2 ^ 62
 
 -- ---- the basin
+
+-- the counts are inside their limits
+pub record CountsIn (n m : ℕ) : Type 0 where
+  pub n_least : 1 ≤ n
+  pub n_most : n ≤ most_subs
+  pub m_most : m ≤ most_reaches
 
 -- 9 but for the counts and the sub-basins in use
 unfoldable pub records_in : Basin → Bool

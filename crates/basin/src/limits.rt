@@ -1,51 +1,54 @@
 // 9's limits of a basin, part by part: document 01, "Who sent it".
-ghost use Rattle.std.specs.Prelude.{◌≡◌, ◌≤◌};
+ghost use Rattle.std.specs.Prelude.{◌≡◌};
 ghost use Rattle.basin.specs.Limits.{counts_in, subs_used, reaches_used, others_in};
-ghost use Rattle.basin.specs.Workers.{records_in};
+ghost use Rattle.basin.specs.Workers.{CountsIn, records_in};
 
-use crate::reach::Reach;
 use crate::state::{Basin, MOST_REACHES, MOST_SUBS};
-use subbasin::record::SubBasin;
 
-// Whether all is inside its limits but the sub-basins in use, which their own steps judge.
-pub fn others_allowed(b: &Basin) -> bool
-    ensures { result ≡ others_in b.now }
-{
-    counts_allowed(b.n, b.m) && records_allowed(b)
-}
-
-// The reaches, and the records that are not in use.
-fn records_allowed(b: &Basin) -> bool
-    requires { (b.now.n ≤ 32) × (b.now.m ≤ 31) }
-    ensures { result ≡ records_in b.now }
-{
-    b.subs[b.n as usize..].iter().all(|s| s.is_blank())
-        && reaches_used(&b.reaches, b.m)
-        && b.reaches[b.m as usize..].iter().all(|r| r.is_blank())
-}
-
-fn counts_allowed(n: u64, m: u64) -> bool
-    ensures { result ≡ counts_in n m }
-{
-    1 <= n && n <= MOST_SUBS && m <= MOST_REACHES
-}
-
-// The sub-basins in use.
-pub fn subs_used(subs: &[SubBasin; 32], n: u64, m: u64) -> bool
-    requires { n ≤ 32 }
-    ensures { result ≡ subs_used m n subs.now }
-{
-    subs[..n as usize].iter().all(|s| s.allowed(m))
-}
-
-fn reaches_used(reaches: &[Reach; 31], m: u64) -> bool
-    requires { m ≤ 31 }
-    ensures { result ≡ reaches_used m reaches.now }
-{
-    for (j, r) in reaches[..m as usize].iter().enumerate() {
-        if !r.allowed(j as u64 + 1, m) {
-            return false;
-        }
+impl Basin {
+    // Whether all is inside its limits but the sub-basins in use, which their own steps judge.
+    pub(crate) fn others_allowed(&self) -> bool
+        ensures { result ≡ others_in self.now }
+    {
+        self.counts_allowed() && self.records_allowed()
     }
-    true
+
+    // Whether the sub-basins in use are.
+    pub(crate) fn subs_used(&self) -> bool
+        requires { CountsIn self.now.n self.now.m }
+        ensures { result ≡ subs_used self.now.m self.now.n self.now.subs }
+    {
+        self.subs[..self.n as usize]
+            .iter()
+            .all(|s| s.allowed(self.m))
+    }
+
+    fn counts_allowed(&self) -> bool
+        ensures { result ≡ counts_in self.now.n self.now.m }
+    {
+        let n = self.n;
+        1 <= n && n <= MOST_SUBS && self.m <= MOST_REACHES
+    }
+
+    // The reaches, and the records that are not in use.
+    fn records_allowed(&self) -> bool
+        requires { CountsIn self.now.n self.now.m }
+        ensures { result ≡ records_in self.now }
+    {
+        self.subs[self.n as usize..].iter().all(|s| s.is_blank())
+            && self.reaches_used()
+            && self.reaches[self.m as usize..].iter().all(|r| r.is_blank())
+    }
+
+    fn reaches_used(&self) -> bool
+        requires { CountsIn self.now.n self.now.m }
+        ensures { result ≡ reaches_used self.now.m self.now.reaches }
+    {
+        for (j, r) in self.reaches[..self.m as usize].iter().enumerate() {
+            if !r.allowed(j as u64 + 1, self.m) {
+                return false;
+            }
+        }
+        true
+    }
 }

@@ -13,12 +13,11 @@ pub struct Routed {
     pub held: u64,
 }
 
-// Reaches 1..m in order: each takes what was sent to it, and sends its outflow on. Entry 0 of `sent` is the outlet.
-pub fn route(reaches: &mut [Reach; 31], sent: [u64; 32], m: u64) -> Routed
-    requires { Flowing m reaches.old sent }
-    ensures { Flowed m reaches.old sent reaches.new result.outlet result.held }
+// Reaches 1..m in order: each takes what is on its way to it, and sends its outflow on. Entry 0 of `pending` is the outlet.
+pub fn route(reaches: &mut [Reach; 31], pending: &mut [u64; 32], m: u64) -> Routed
+    requires { Flowing m reaches.old pending.old }
+    ensures { Flowed m reaches.old pending.old reaches.new result.outlet result.held }
 {
-    let mut pending = sent;
     let mut held = 0;
     for i in 0..m as usize {
         let r = &mut reaches[i];

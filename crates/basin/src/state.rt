@@ -2,7 +2,6 @@
 ghost use Rattle.std.specs.Prelude.{◌≡◌, true};
 ghost use Rattle.basin.specs.Limits.{basin_in, Unused};
 
-use crate::limits;
 use crate::reach::Reach;
 use subbasin::record::SubBasin;
 
@@ -26,6 +25,6 @@ impl Basin {
         ensures answers { result ≡ basin_in self.now }
         ensures judges { result ≡ true → Unused self.now }
     {
-        limits::others_allowed(self) && limits::subs_used(&self.subs, self.n, self.m)
+        self.others_allowed() && self.subs_used()
     }
 }

@@ -6,8 +6,8 @@ ghost use Rattle.basin.specs.Limits.{others_in, basin_in};
 ghost use Rattle.basin.specs.Step.{taken, as_outcome, refused_step, step_call, Judged};
 ghost use Rattle.basin.specs.Workers.{Weathers, TurnOf, subs_only, SubsOf};
 
+use crate::network;
 use crate::state::Basin;
-use crate::{limits, network};
 use common::refusal::{Refusal, Refused};
 use common::weather::Weather;
 use curve::capacity;
@@ -56,7 +56,7 @@ impl Basin {
         ensures answers { as_outcome self.new result ≡ step_call self.old lines count }
         ensures judges { Judged self.old lines count (as_outcome self.new result) }
     {
-        if !limits::others_allowed(self) {
+        if !self.others_allowed() {
             return Err(Refusal::BadBasin.into());
         }
         match list::read(lines, count, self.n) {
@@ -70,7 +70,7 @@ impl Basin {
         requires { others_in self.now ≡ true }
         ensures { as_outcome self.now (Err result) ≡ cond (basin_in self.now) (as_outcome self.now (Err by_lines)) (refused_step self.now 9 0) }
     {
-        if limits::subs_used(&self.subs, self.n, self.m) {
+        if self.subs_used() {
             return by_lines;
         }
         Refusal::BadBasin.into()
@@ -83,8 +83,8 @@ impl Basin {
         ensures { as_outcome self.new result ≡ cond (basin_in self.old) (taken self.old (as_forcing (Ok readings.now))) (refused_step self.old 9 0) }
     {
         let mut subs = self.subs;
-        let stepped = step_subs(roots, &mut subs, &readings.weather, self.n, self.m)?;
-        let routed = network::route(&mut self.reaches, stepped.sent, self.m);
+        let mut stepped = step_subs(roots, &mut subs, &readings.weather, self.n, self.m)?;
+        let routed = network::route(&mut self.reaches, &mut stepped.sent, self.m);
         self.subs = subs;
         Ok(Report {
             rain: stepped.rain,

@@ -22,15 +22,10 @@ use Rattle.basin.specs.declared.state.Basin.{Basin}
 use Rattle.basin.specs.Reach.{reach_in, blank_reach, is_blank_reach}
 use Rattle.basin.specs.State.{most_subs, most_reaches, sub_at, reach_at}
 use Rattle.basin.specs.Limits.{counts_in, subs_used, subs_blank, reaches_used, reaches_blank, others_in, basin_in}
-use Rattle.basin.specs.Workers.{records_in}
+use Rattle.basin.specs.Workers.{CountsIn, records_in}
 use Rattle.basin.proofs.reach.ReachLaws.{ReachIn, reach_limits, reach_in_lem}
 
 -- ---- the counts
-
-pub record CountsIn (n m : ℕ) : Type 0 where
-  pub n_least : 1 ≤ n
-  pub n_most : n ≤ most_subs
-  pub m_most : m ≤ most_reaches
 
 module _ (n m : ℕ) where
   pub counts_limits : counts_in n m ≡ true → CountsIn n m
@@ -134,6 +129,9 @@ module _ (b : Basin) where
       (every_in (λ k. is_blank (sub_at b (b.n + k))) (most_subs - b.n) (λ k l. h.blank_subs (b.n + k) (omega arith) (omega arith))))
       (every_in (λ j. reach_in b.m (suc j) (reach_at b j)) b.m (λ j l. reach_in_lem b.m (suc j) (reach_at b j) (h.used_reaches j l))))
       (every_in (λ k. is_blank_reach (reach_at b (b.m + k))) (most_reaches - b.m) (λ k l. h.blank_reaches (b.m + k) (omega arith) (omega arith)))
+
+  pub others_counts : others_in b ≡ true → CountsIn b.n b.m
+  others_counts t = let o = others_limits t in record { n_least = o.n_least; n_most = o.n_most; m_most = o.m_most }
 
   -- the sub-basins in use decide of a basin whose others are inside
   pub basin_used : others_in b ≡ true → basin_in b ≡ subs_used b.m b.n b.subs

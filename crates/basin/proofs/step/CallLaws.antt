@@ -40,7 +40,9 @@ module _ (b : Basin) (f : Forcing) (y : others_in b ≡ true) where
   pub subs_refuse : subs_used b.m b.n b.subs ≡ false → {why : Refusal} → why ≡ BadBasin → (r : Result Report Refused)
       → IsErr r × IsErrAnd r (λ e. e ≡ record { why = why; place = 0 }) → as_outcome b r ≡ by_nine b f
   subs_refuse n {why} is (Ok x) h = cc
-  subs_refuse n {why} is (Err e) h = rw (h.1, is) (sym (rw (basin_used b y ∙ n)))
+  subs_refuse n {why} is (Err e) h =
+      ap (λ (w : Refused). as_outcome b (Err w)) (h.1 ∙ ap (λ (r : Refusal). record { why = r; place = 0 }) is)
+      ∙ sym (rw (basin_used b y ∙ n))
 
 module _ (b : Basin) (f : Forcing) (y : others_in b ≡ true) {subs : List SubBasin} {s : Subs} (done : SubsDone (subs_only b.n b.m b.subs) f.weather subs s) where
   abbrev others : OthersIn b

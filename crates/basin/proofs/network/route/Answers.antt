@@ -18,7 +18,7 @@ pub overflow_add-pending-in-loop-i : goal.overflow_add-pending-in-loop-i
 overflow_add-pending-in-loop-i c = omega (arith, sent_fits _ _ _ c.loop-i.invariant c.loop-i-test.true _ c.pass-out.ensures)
 
 pub bounds-pending-r-in-loop-i : goal.bounds-pending-r-in-loop-i
-bounds-pending-r-in-loop-i c = bounds-pending-r c
+bounds-pending-r-in-loop-i c = next_here _ _ _ c.loop-i.invariant c.loop-i-test.true _ c.pass-out.ensures
 
 pub overflow_add-held : goal.overflow_add-held
 overflow_add-held c = omega (arith, held_fits _ _ _ c.loop-i.invariant c.loop-i-test.true _ c.pass-out.ensures)

@@ -11,16 +11,16 @@ pub returns-in_default : goal.returns-in_default
 returns-in_default c = (call_refuses _ _ _ c.requires.1 _ _ c.in_default.ensures, refl)
 
 pub overflow_mul-result : goal.overflow_mul-result
-overflow_mul-result c = let fits = turn_fits _ _ _ c.requires.1 _ c.if-m-p.false _ c.in-Ok.ensures in omega arith
+overflow_mul-result c = omega (arith, turn_fits _ _ _ c.requires.1 _ c.if-m-p.false _ c.in-Ok.ensures)
 
 pub overflow_add-result : goal.overflow_add-result
-overflow_add-result c = let fits = turn_fits _ _ _ c.requires.1 _ c.if-m-p.false _ c.in-Ok.ensures in omega arith
+overflow_add-result c = omega (arith, turn_fits _ _ _ c.requires.1 _ c.if-m-p.false _ c.in-Ok.ensures)
 
 pub overflow_add-result-2 : goal.overflow_add-result-2
-overflow_add-result-2 c = let fits = turn_fits _ _ _ c.requires.1 _ c.if-m-p.false _ c.in-Ok.ensures in omega arith
+overflow_add-result-2 c = omega (arith, turn_fits _ _ _ c.requires.1 _ c.if-m-p.false _ c.in-Ok.ensures)
 
 pub overflow_mul-result-2 : goal.overflow_mul-result-2
-overflow_mul-result-2 c = let fits = turn_fits _ _ _ c.requires.1 _ c.if-m-p.false _ c.in-Ok.ensures in omega arith
+overflow_mul-result-2 c = omega (arith, turn_fits _ _ _ c.requires.1 _ c.if-m-p.false _ c.in-Ok.ensures)
 
 pub returns : goal.returns
 returns c = turn_accepted _ _ _ c.requires.1 _ c.if-m-p.false _ c.in-Ok.ensures c.water.ensures

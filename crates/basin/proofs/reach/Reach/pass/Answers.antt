@@ -1,7 +1,6 @@
 -- `basin::reach::Reach::pass` meets its contract: the store call is inside its limits. Assumes nothing.
 use mathlib.Core.Path.{◌≡◌, ap}
 use Prim.Native.Nat.{ℕ}
-use native.Mathlib.Omega.{arith}
 use Rattle.curve.specs.declared.store.Store.{Store}
 use Rattle.curve.specs.declared.store.Taken.{Taken}
 use Rattle.curve.specs.Store.{as_released, store_call}
@@ -17,9 +16,6 @@ store_of r = record { a = r.c0; g = g_of r; content = r.content }
 
 takes : (r : Reach) (i : ℕ) → Passing r i → {t : Taken} → as_released t ≡ store_call (store_of r) i → t ≡ taken (store_of r) i
 takes r i h = store_takes (store_of r) i (record { a_in = h.c0_most; g_in = h.g_most; inflow_in = h.inflow_most; content_in = h.content_most })
-
-pub overflow_add-store : goal.overflow_add-store
-overflow_add-store c = omega (arith, c.requires.g_most)
 
 pub unwrap-requires : goal.unwrap-requires
 unwrap-requires c = unwraps (ap (λ (t : Taken). t.outflow) (takes _ _ c.requires c.take-taken.ensures))

@@ -3,7 +3,7 @@ use mathlib.Core.Path.{◌≡◌, sym, ◌∙◌}
 use mathlib.Core.Bool.{Bool, true}
 use Rattle.basin.specs.declared.state.Basin.{Basin}
 use Rattle.basin.specs.Limits.{basin_in, Unused}
-use Rattle.basin.proofs.limits.LimitsLaws.{others_limits, basin_limits, basin_used, basin_others}
+use Rattle.basin.proofs.limits.LimitsLaws.{others_counts, basin_limits, basin_used, basin_others}
 use Rattle.basin.proofs.state.Basin.allowed.Goals as goal
 
 -- the answer's equation, and what it says of the records past N and M
@@ -15,7 +15,7 @@ answered b e =
     }
 
 pub subs_used-requires : goal.subs_used-requires
-subs_used-requires c = (others_limits _ (sym c.others_allowed.ensures ∙ c.if-others_allowed.true)).n_most
+subs_used-requires c = others_counts _ (sym c.others_allowed.ensures ∙ c.if-others_allowed.true)
 
 pub returns-then-others_allowed : goal.returns-then-others_allowed
 returns-then-others_allowed c = answered _ (c.subs_used.ensures ∙ sym (basin_used _ (sym c.others_allowed.ensures ∙ c.if-others_allowed.true)))

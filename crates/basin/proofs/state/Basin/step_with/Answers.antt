@@ -22,9 +22,6 @@ take-requires c = (sym c.others_allowed.ensures ∙ c.if-not-others_allowed.fals
 pub returns-in-Ok : goal.returns-in-Ok
 returns-in-Ok c = answers _ _ _ (c.take.ensures ∙ call_accepted _ _ _ c.in-Ok.ensures.answered refl)
 
-pub refusal-requires : goal.refusal-requires
-refusal-requires c = sym c.others_allowed.ensures ∙ c.if-not-others_allowed.false
-
 pub returns-in-Err : goal.returns-in-Err
 returns-in-Err c =
     answers _ _ _ (c.refusal.ensures ∙ call_refused _ _ _ c.in-Err.ensures.answered (λ z. omega (arith, number_some c.in-Err.by_lines.why)))

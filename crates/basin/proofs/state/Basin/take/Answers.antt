@@ -1,5 +1,4 @@
 -- `basin::state::Basin::take` meets its contract. Assumes nothing.
-use native.Mathlib.Omega.{arith}
 use Rattle.std.proofs.Common.{Ok}
 use Rattle.forcing.specs.List.{as_forcing}
 use Rattle.basin.proofs.limits.LimitsLaws.{others_limits}
@@ -19,9 +18,6 @@ returns-in_err-stepped c =
 
 pub route-routed-requires : goal.route-routed-requires
 route-routed-requires c = flowing _ (as_forcing (Ok c.args.readings.now)) c.requires.0 c.in_ok-stepped.ensures
-
-pub overflow_add-result : goal.overflow_add-result
-overflow_add-result c = omega (arith, c.in_ok-stepped.ensures.held_most, c.route-routed.ensures.held_most)
 
 pub returns : goal.returns
 returns c = taken_is _ _ c.requires.0 c.in_ok-stepped.ensures c.route-routed.ensures

@@ -1,4 +1,4 @@
--- `basin::limits::records_allowed` meets its contract. Assumes nothing.
+-- `basin::state::Basin::records_allowed` meets its contract. Assumes nothing.
 use mathlib.Core.Path.{◌≡◌, refl, ◌∙◌}
 use mathlib.Core.Bool.{Bool, ◌&&◌}
 use mathlib.Core.List.{List}
@@ -17,8 +17,8 @@ use Rattle.basin.specs.State.{most_subs, most_reaches}
 use Rattle.basin.specs.Limits.{subs_blank, reaches_used, reaches_blank}
 use Rattle.basin.specs.Workers.{records_in}
 use Rattle.basin.proofs.limits.LimitsLaws.{all_left, and_then, and_stop}
-use Rattle.basin.proofs.limits.records_allowed.Goals.{then-all, else-all}
-use Rattle.basin.proofs.limits.records_allowed.Goals as goal
+use Rattle.basin.proofs.state.Basin.records_allowed.Goals.{then-all, else-all}
+use Rattle.basin.proofs.state.Basin.records_allowed.Goals as goal
 
 -- the records that are not in use, as the code tests them
 abbrev unused_subs : ℕ → List SubBasin → List SubBasin
@@ -38,9 +38,9 @@ blank_reaches m rs h l e = e ∙ all_left is_blank_reach blank_reach rs m (most_
 pub returns-then-reaches_used : goal.returns-then-reaches_used
 unfolding records_in
 returns-then-reaches_used c =
-    let b = c.args.b.now in
+    let b = c.args.self.now in
     let subs =
-    blank_subs b.n b.subs c.requires.0 (omega arith)
+    blank_subs b.n b.subs c.requires.n_most (omega arith)
     (all_from_yields_List is_blank _ _ c.all.result c.all.ensures.ran (YieldsList-from_slice (unused_subs b.n b.subs) c.iter.ensures.rest)
     (λ x b q k. search (rules, tests))) in
     let first : c.if-all.value ≡ subs_blank b.n b.subs && reaches_used b.m b.reaches =
@@ -49,16 +49,16 @@ returns-then-reaches_used c =
       | else-all w ↦ and_stop _ subs w.if-all.false w.value-is
     ] in
     and_then first c.if-reaches_used.true
-    (blank_reaches b.m b.reaches c.requires.1 (omega arith)
+    (blank_reaches b.m b.reaches c.requires.m_most (omega arith)
     (all_from_yields_List is_blank_reach _ _ c.all-then-reaches_used.result c.all-then-reaches_used.ensures.ran
     (YieldsList-from_slice (unused_reaches b.m b.reaches) c.iter-then-reaches_used.ensures.rest) (λ x b q k. search (rules, tests))))
 
 pub returns-else-reaches_used : goal.returns-else-reaches_used
 unfolding records_in
 returns-else-reaches_used c =
-    let b = c.args.b.now in
+    let b = c.args.self.now in
     let subs =
-    blank_subs b.n b.subs c.requires.0 (omega arith)
+    blank_subs b.n b.subs c.requires.n_most (omega arith)
     (all_from_yields_List is_blank _ _ c.all.result c.all.ensures.ran (YieldsList-from_slice (unused_subs b.n b.subs) c.iter.ensures.rest)
     (λ x b q k. search (rules, tests))) in
     let first : c.if-all.value ≡ subs_blank b.n b.subs && reaches_used b.m b.reaches =

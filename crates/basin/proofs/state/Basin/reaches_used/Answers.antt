@@ -3,7 +3,7 @@ use native.Mathlib.Omega.{arith}
 use Rattle.common.proofs.Loops.{try_begin, try_turn, try_stop, try_end}
 use Rattle.basin.specs.Limits.{reaches_used}
 use Rattle.basin.proofs.limits.LimitsLaws.{used_reach}
-use Rattle.basin.proofs.limits.reaches_used.Goals as goal
+use Rattle.basin.proofs.state.Basin.reaches_used.Goals as goal
 
 pub loop-j-init : goal.loop-j-init
 loop-j-init c = try_begin
