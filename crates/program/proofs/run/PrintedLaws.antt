@@ -8,10 +8,12 @@ use lib.ListN.{length, drop, length-append, length-drop}
 use lib.Seq.{drop-nil, drop-drop}
 use borrow.Author.Tests.{eq-eqb, ne_eqb}
 use Rattle.basin.specs.declared.state.Basin.{Basin}
+use Rattle.basin.specs.declared.file.Loaded.{Loaded}
 use Rattle.basin.specs.File.{load_call}
 use Rattle.basin.specs.Calls.{last_basin}
-use Rattle.basin.proofs.file.LoadedLaws.{accepted_within, words_loaded, loaded_n}
+use Rattle.basin.proofs.file.LoadedLaws.{start_loads, accepted_within, words_loaded, loaded_n}
 use Rattle.program.specs.Print.{step_bytes, calls_in, whole_steps, part_bytes, calls_of, load_text, steps_text, part_text, run_text, printed}
+use Rattle.program.specs.Workers.{StartOf}
 use Rattle.program.proofs.run.CallsLaws.{last_append, text_append, calls_length}
 use Rattle.program.proofs.run.CallsLaws.{whole_is, part_is, whole_least, whole_most, rest_more, calls_rest}
 
@@ -83,6 +85,19 @@ pub printed_refused : (basin forcing : List ℕ) → ((load_call basin).number �
     → printed basin forcing ≡ load_text (load_call basin).number (load_call basin).place
 unfolding printed
 printed_refused basin forcing bad = rw (ne_eqb (load_call basin).number 0 bad)
+
+-- the line of a refused load is all that is printed
+pub printed_all : (basin forcing : List ℕ) {loaded : Loaded} → loaded ≡ load_call basin → (loaded.number ≡ 0 → ⊥)
+    → load_text loaded.number loaded.place ≡ printed basin forcing
+printed_all basin forcing e bad = ap (λ (l : Loaded). load_text l.number l.place) e ∙ sym (printed_refused basin forcing (rw e at bad))
+
+-- and so it is of every file with this start
+pub printed_start : {bytes : List ℕ} {loaded : Loaded} {out : List ℕ} → (loaded ≡ load_call bytes) × (loaded.number ≡ 0 → ⊥)
+    → out ≡ load_text loaded.number loaded.place
+    → (file forcing : List ℕ) → StartOf file bytes → out ≡ printed file forcing
+printed_start {loaded = loaded} refused text file forcing start =
+    let whole : loaded ≡ load_call file = refused.0 ∙ ap load_call start ∙ start_loads 4096 (omega arith) file in
+    text ∙ printed_all file forcing whole refused.1
 
 pub printed_by_reads : (basin : List ℕ) → (load_call basin).number ≡ 0 → (reads : List (List ℕ))
     → reads_text (load_call basin).basin.n (load_call basin).basin 0 [] reads ≡ printed basin (flatten reads)
