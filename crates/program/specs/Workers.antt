@@ -1,5 +1,6 @@
 -- What the private functions require and answer: no part of document 01.
-use Rattle.std.specs.Prelude.{◌≡◌, List, [], ◌∷◌, ◌++◌, ℕ, ◌+◌, ◌*◌, ◌≤◌, ◌<◌, length, take}
+use Rattle.std.specs.Prelude.{◌≡◌, Option, List, [], ◌∷◌, ◌++◌, ℕ, ◌+◌, ◌*◌, ◌≤◌, ◌<◌, length, take}
+use Rattle.std.specs.Io.KnownBytes.{Appends}
 use Rattle.basin.specs.declared.state.Basin.{Basin}
 use Rattle.basin.specs.File.{load_call}
 use Rattle.basin.specs.Calls.{Call, last_basin}
@@ -7,7 +8,7 @@ use Rattle.program.specs.declared.Ended.{Ended}
 use Rattle.program.specs.declared.Ended.TheVariants.{Failed}
 use Rattle.program.specs.Ended.{Ends}
 use Rattle.program.specs.Print.{decimal, blank, newline}
-use Rattle.program.specs.Print.{short_text, part_text, step_bytes, whole_steps, part_bytes, calls_of, steps_text, printed}
+use Rattle.program.specs.Print.{short_text, part_text, step_bytes, whole_steps, part_bytes, calls_of, steps_text, run_text, printed}
 
 -- the rest of a line: numbers with a blank before each, and the line's end
 abbrev pub numbers_text : List ℕ → List ℕ
@@ -31,14 +32,23 @@ pub record Stepped (b : Basin) (n done : ℕ) (bytes : List ℕ) (after : Basin)
   pub after_is : after ≡ last_basin b (calls_of n bytes)
   pub lines_are : out ≡ steps_text b done (calls_of n bytes)
 
+-- A run of the program: where no read or write failed, a writer whose bytes are known has all that document 01 has for two files, and nothing
+-- besides. Of what a read brings nothing can be said, so the files are some files.
+pub record Prints (ended : Ended) (old new : Option (List ℕ)) : Type 0 where
+  pub basin : List ℕ
+  pub forcing : List ℕ
+  pub all_printed : (ended ≡ Failed → ⊥) → Appends old new (printed basin forcing)
+
 -- the bytes that are read of a file: no more than 4,096
 abbrev pub StartOf : List ℕ → List ℕ → Type 0
 StartOf file bytes = bytes ≡ take 4096 file
 
 -- A run from a basin: there are bytes, all that the reads brought, whose whole steps were taken one after the other, and of whose rest the
--- line is left where no read or write failed. Of what a read brings nothing can be said, so the bytes are some bytes.
-pub record RunOf (first : Basin) (ended : Ended) (last : Basin) (out : List ℕ) : Type 0 where
+-- line is left where no read or write failed; and then a writer whose bytes are known has their lines, and nothing besides. Of what a read
+-- brings nothing can be said, so the bytes are some bytes.
+pub record RunOf (first : Basin) (ended : Ended) (last : Basin) (out : List ℕ) (old new : Option (List ℕ)) : Type 0 where
   pub bytes : List ℕ
   pub last_is : last ≡ last_basin first (calls_of first.n bytes)
   pub ends : Ends (part_bytes first.n bytes) ended
   pub part_put : (ended ≡ Failed → ⊥) → out ≡ part_text (part_bytes first.n bytes)
+  pub printed : (ended ≡ Failed → ⊥) → Appends old new (run_text first bytes)

@@ -1,6 +1,7 @@
 // Reading and writing that an interrupt does not end: the call is tried again.
-ghost use Rattle.std.specs.Prelude.{◌≤◌, ◌<◌, length, IfOk, IfErr};
+ghost use Rattle.std.specs.Prelude.{◌≤◌, ◌<◌, length, IfOk, IfErr, OnOk};
 ghost use Rattle.std.specs.Io.{ReadsAtMost, WritesAtMost};
+ghost use Rattle.std.specs.Io.KnownBytes.{Appends, WriteAppends};
 
 use std::io;
 use std::io::ErrorKind;
@@ -44,7 +45,8 @@ pub struct Unwritten {
 
 // Writes bytes: all, or fewer where a write fails.
 pub fn write_full<W: io::Write>(to: &mut W, bytes: &[u8]) -> Result<(), Unwritten>
-    ensures { IfErr result (λ unwritten. unwritten.count ≤ length bytes.now) }
+    ensures count { IfErr result (λ unwritten. unwritten.count ≤ length bytes.now) }
+    ensures bytes { OnOk result (Appends (W.contents to.old) (W.contents to.new) bytes.now) }
 {
     let mut count = 0;
     while count < bytes.len() {
@@ -60,12 +62,14 @@ pub fn write_full<W: io::Write>(to: &mut W, bytes: &[u8]) -> Result<(), Unwritte
 fn write_some<W: io::Write>(to: &mut W, bytes: &[u8]) -> io::Result<usize>
     ensures bound { WritesAtMost result bytes.now }
     ensures some { IfOk result (λ count. 0 < count) }
+    ensures bytes { WriteAppends (W.contents to.old) (W.contents to.new) result bytes.now }
 {
     for _ in 0..CALLS {
         match to.write(bytes) {
             Ok(0) => return Err(io::Error::from(ErrorKind::WriteZero)),
+            Ok(count) => return Ok(count),
             Err(error) if error.kind() == ErrorKind::Interrupted => {}
-            written => return written,
+            Err(error) => return Err(error),
         }
     }
     Err(io::Error::from(ErrorKind::Interrupted))

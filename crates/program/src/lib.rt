@@ -10,10 +10,11 @@ mod text;
 
 ghost use Rattle.std.specs.Prelude.{◌≡◌, List, ℕ};
 ghost use Rattle.std.specs.Io.{ReadsAtMost};
+ghost use Rattle.std.specs.Io.KnownBytes.{Appends};
 ghost use Rattle.basin.specs.File.{load_call};
 ghost use Rattle.program.specs.Print.{load_text, printed};
 ghost use Rattle.program.specs.Ended.{status_of};
-ghost use Rattle.program.specs.Workers.{StartOf};
+ghost use Rattle.program.specs.Workers.{Prints, StartOf};
 
 use basin::file;
 use basin::file::Loaded;
@@ -54,7 +55,9 @@ pub fn account<F: Files, W: io::Write, E: io::Write>(
     said: &mut E,
     basin: &[u8],
     forcing: &[u8],
-) -> Ended {
+) -> Ended
+    ensures { Prints result (W.contents to.old) (W.contents to.new) }
+{
     // 4,096 bytes, which no legal basin file has: the start of a longer one is refused as the whole is.
     let mut bytes = [0u8; 4096];
     let mut out = Output::new();
@@ -120,7 +123,10 @@ fn refuse<W: io::Write, E: io::Write>(
     loaded: Loaded,
 ) -> Ended
     requires { (loaded ≡ load_call bytes.now) × (loaded.number ≡ 0 → ⊥) }
+    ensures same_reference { streams.new.to.ghost_name ≡ streams.old.to.ghost_name }
     ensures text { out.new ≡ load_text loaded.number loaded.place }
+    ensures printed { (result ≡ Ended.Failed → ⊥)
+        → Appends (W.contents streams.old.to.now) (W.contents streams.new.to.now) (load_text loaded.number loaded.place) }
     ensures whole { (file forcing : List ℕ) → StartOf file bytes.now → out.new ≡ printed file forcing }
 {
     out.set_load(loaded.number, loaded.place);

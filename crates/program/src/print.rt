@@ -1,6 +1,7 @@
 // The lines that the program prints: document 01, "What the program prints". A line has at most 129 bytes: six numbers of at most 20
 // digits, and 9 besides.
-ghost use Rattle.std.specs.Prelude.{◌≡◌, ◌++◌, ◌+◌, ◌≤◌, ◌<◌, ◌^◌, length};
+ghost use Rattle.std.specs.Prelude.{◌≡◌, ◌++◌, ◌+◌, ◌≤◌, ◌<◌, ◌^◌, length, IsTrue};
+ghost use Rattle.std.specs.Io.KnownBytes.{Appends};
 ghost use Rattle.program.specs.Print.{load_text, step_text, short_text};
 ghost use Rattle.program.specs.Workers.{Lines};
 
@@ -21,6 +22,8 @@ impl<W: io::Write, E: io::Write> Streams<'_, W, E> {
     pub fn print(&mut self, lines: &Output, first: u64) -> bool
         requires first_bound { first < 2 ^ 63 }
         requires lines { Lines first lines.now }
+        ensures same_reference { self.new.to.ghost_name ≡ self.old.to.ghost_name }
+        ensures printed { IsTrue result → Appends (W.contents self.old.to.now) (W.contents self.new.to.now) lines.now }
     {
         let bytes = lines.as_bytes();
         match calls::write_full(self.to, bytes) {

@@ -1,6 +1,7 @@
 // The steps of the forcing file. Each is taken and its line printed when its bytes have come, up to 64 at a time, so that a file of
 // any length takes the same room.
 ghost use Rattle.std.specs.Prelude.{◌≡◌, ◌+◌, ◌*◌, ◌≤◌, ◌<◌, ◌^◌, length, take, IfOk};
+ghost use Rattle.std.specs.Io.KnownBytes.{Appends};
 ghost use Rattle.program.specs.Print.{step_bytes, part_text};
 ghost use Rattle.program.specs.Ended.{Ends};
 ghost use Rattle.program.specs.Workers.{RunOf, Stepped};
@@ -48,7 +49,9 @@ pub fn run<R: io::Read, W: io::Write, E: io::Write>(
     out: &mut Output,
 ) -> Ended
     requires { (1 ≤ given.old.basin.n) × (given.old.basin.n ≤ 32) }
-    ensures { RunOf given.old.basin result given.new.basin out.new }
+    ensures same_reference { streams.new.to.ghost_name ≡ streams.old.to.ghost_name }
+    ensures run { RunOf given.old.basin result given.new.basin out.new
+        (W.contents streams.old.to.now) (W.contents streams.new.to.now) }
 {
     let n = given.basin.n;
     let size = (file::LINE_BYTES * n) as usize;
@@ -89,8 +92,11 @@ fn end_run<W: io::Write, E: io::Write>(
     size: usize,
 ) -> Ended
     requires { done < 2 ^ 62 }
+    ensures same_reference { streams.new.to.ghost_name ≡ streams.old.to.ghost_name }
     ensures ends { Ends kept result }
     ensures part_put { out.new ≡ part_text kept }
+    ensures printed { (result ≡ Ended.Failed → ⊥)
+        → Appends (W.contents streams.old.to.now) (W.contents streams.new.to.now) (part_text kept) }
 {
     if kept == 0 {
         out.clear();

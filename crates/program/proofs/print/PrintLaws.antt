@@ -3,6 +3,9 @@ use mathlib.Core.Path.{◌≡◌, refl}
 use mathlib.Core.List.{List, [], ◌∷◌, ◌++◌, append_assoc}
 use Prim.Native.Nat.{ℕ}
 use borrow.Author.Tests.{eq-eqb, ne_eqb}
+use Rattle.std.proofs.Common.{Option}
+use Rattle.std.specs.Io.KnownBytes.{Appends}
+use Rattle.std.proofs.KnownBytes.{Appends-nil}
 use Rattle.basin.specs.declared.step.Report.{Report}
 use Rattle.program.specs.Print.{decimal, load, ok, refused, short, blank}
 use Rattle.program.specs.Print.{load_text, accepted_text, refused_text, step_text, short_text, part_text}
@@ -38,3 +41,7 @@ no_part {count} e = rw (eq-eqb count 0 e) refl
 pub some_part : {count : ℕ} → (count ≡ 0 → ⊥) → short_text count ≡ part_text count
 unfolding part_text
 some_part {count} h = rw (ne_eqb count 0 h)
+
+pub nothing_printed : {count : ℕ} → count ≡ 0 → (known : Option (List ℕ)) → Appends known known (part_text count)
+unfolding part_text
+nothing_printed {count} e known = rw (eq-eqb count 0 e) (Appends-nil known)

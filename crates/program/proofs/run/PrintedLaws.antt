@@ -99,9 +99,27 @@ printed_start {loaded = loaded} refused text file forcing start =
     let whole : loaded ≡ load_call file = refused.0 ∙ ap load_call start ∙ start_loads 4096 (omega arith) file in
     text ∙ printed_all file forcing whole refused.1
 
+pub loaded_some : (basin : List ℕ) {loaded : Loaded} → loaded ≡ load_call basin → loaded.number ≡ 0 → 1 ≤ loaded.basin.n
+loaded_some basin e good = (loaded_n ((accepted_within basin e).0 good) (words_loaded basin e good)).0
+
+-- of a load that is accepted the steps are printed
+pub printed_accepted : (basin forcing : List ℕ) {loaded : Loaded} → loaded ≡ load_call basin → loaded.number ≡ 0
+    → run_text loaded.basin forcing ≡ printed basin forcing
+unfolding printed
+printed_accepted basin forcing e good =
+    ap (λ (l : Loaded). run_text l.basin forcing) e ∙ sym (rw (eq-eqb (load_call basin).number 0 (rw e at good)) refl)
+
+-- and nothing where there are none
+pub run_nothing : (b : Basin) → 1 ≤ b.n → run_text b [] ≡ []
+unfolding calls_in calls_of steps_text part_text run_text
+run_nothing b some =
+    let none : whole_steps b.n [] ≡ 0 = sym (whole_is b.n [] 0 0 (omega arith) (omega arith)) in
+    let left : part_bytes b.n [] ≡ 0 = sym (part_is b.n [] 0 0 (omega arith) (omega arith)) in
+    rw (none, left) refl
+
 pub printed_by_reads : (basin : List ℕ) → (load_call basin).number ≡ 0 → (reads : List (List ℕ))
     → reads_text (load_call basin).basin.n (load_call basin).basin 0 [] reads ≡ printed basin (flatten reads)
 unfolding run_text printed
 printed_by_reads basin good reads =
     rw (eq-eqb (load_call basin).number 0 good)
-    (reads_text_lem (load_call basin).basin.n (loaded_n ((accepted_within basin refl).0 good) (words_loaded basin refl good)).0 (load_call basin).basin reads)
+    (reads_text_lem (load_call basin).basin.n (loaded_some basin refl good) (load_call basin).basin reads)

@@ -1,5 +1,6 @@
 -- `program::run::run` meets its contract, block by block. Assumes nothing.
-use Rattle.std.proofs.Common.{◌≡◌, ◌*◌, ◌≤◌, length}
+use Rattle.std.proofs.Common.{◌≡◌, List, ℕ, ◌*◌, ◌≤◌, length}
+use Rattle.std.specs.Io.KnownBytes.{Appends}
 use Rattle.program.proofs.run.RunLaws.{Running}
 use Rattle.program.proofs.run.run.Given as goal
 
@@ -7,5 +8,8 @@ abbrev pub invariant-loop-reads : goal.invariant-loop-reads
 invariant-loop-reads g l = record {
   input_long : length l.input ≡ 24576;
   done_most : l.done ≤ 64 * l._reads;
-  running : Running l.initial.given.basin l.n l.input l.kept l.done l.given.basin;
+  lines : List ℕ;
+  running : Running l.initial.given.basin l.n l.input l.kept l.done l.given.basin lines;
+  same_reference : l.streams.to.ghost_name ≡ l.initial.streams.to.ghost_name;
+  printed : Appends (g.W.Write.contents l.initial.streams.to.now) (g.W.Write.contents l.streams.to.now) lines;
 }
