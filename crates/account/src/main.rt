@@ -1,7 +1,7 @@
 // The program: it reads basin.bin and forcing.bin in the current folder, and its exit status says how that ended.
 #![tactic(auto)]
 
-use program::{FAILED, say};
+use program::{Ended, say};
 use std::fs::{OpenFile, OpenOptions};
 use std::process::ExitCode;
 use std::rt::Files;
@@ -19,9 +19,9 @@ fn main(rt: HostRuntime) -> ExitCode {
     // Some systems tell of a failed write only when the file is stored.
     if let Err(error) = store(&rt, "/dev/stdout") {
         say::failed(&mut said, b"standard output: could not be stored", error);
-        ended = FAILED;
+        ended = Ended::Failed;
     }
-    ExitCode::from(ended as u8)
+    ExitCode::from(u8::from(ended))
 }
 
 // Stores what was written to a file; to a pipe, a terminal or a device there is nothing to store.

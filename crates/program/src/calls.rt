@@ -1,100 +1,76 @@
 // Reading and writing that an interrupt does not end: the call is tried again.
-ghost use Rattle.std.specs.Prelude.{◌≡◌, ◌<◌, length, IfNone};
-ghost use Rattle.program.specs.Workers.{IsPrefixLen};
+ghost use Rattle.std.specs.Prelude.{◌≤◌, ◌<◌, length, IfOk, IfErr, OnOk};
+ghost use Rattle.std.specs.Io.{ReadsAtMost, WritesAtMost};
+ghost use Rattle.std.specs.Io.KnownBytes.{Appends, WriteAppends};
 
 use std::io;
 use std::io::ErrorKind;
-
-// How many bytes were moved, and where that failed, why.
-#[derive(Clone, Copy)]
-pub struct Moved {
-    pub count: usize,
-    pub failure: Option<io::Error>,
-}
 
 // More calls than a run has time for.
 const CALLS: u64 = u64::MAX;
 
 // Reads what is there: nothing at the end of the input.
-pub fn read_some<R: io::Read>(from: &mut R, bytes: &mut [u8]) -> Moved
-    ensures { IsPrefixLen result.count bytes.new }
+pub fn read_some<R: io::Read>(from: &mut R, bytes: &mut [u8]) -> io::Result<usize>
+    ensures { ReadsAtMost result bytes.new }
 {
     for _ in 0..CALLS {
         match from.read(bytes) {
-            Ok(count) => return well(count),
             Err(error) if error.kind() == ErrorKind::Interrupted => {}
-            Err(error) => return failed(0, error),
+            read => return read,
         }
     }
-    failed(0, io::Error::from(ErrorKind::Interrupted))
+    Err(io::Error::from(ErrorKind::Interrupted))
 }
 
-// Reads until bytes are full or the input ends.
-pub fn read_full<R: io::Read>(from: &mut R, bytes: &mut [u8]) -> Moved
-    ensures { IsPrefixLen result.count bytes.new }
+// Reads until bytes are full or the input ends, and answers how many came.
+pub fn read_full<R: io::Read>(from: &mut R, bytes: &mut [u8]) -> io::Result<usize>
+    ensures { ReadsAtMost result bytes.new }
 {
     let mut count = 0;
     while count < bytes.len() {
-        let more = read_some(from, &mut bytes[count..]);
-        if let Some(error) = more.failure {
-            return failed(count, error);
+        match read_some(from, &mut bytes[count..])? {
+            0 => break,
+            more => count += more,
         }
-        if more.count == 0 {
-            break;
-        }
-        count += more.count;
     }
-    well(count)
+    Ok(count)
+}
+
+// A write that failed, and how many bytes were written before it.
+#[derive(Drop)]
+pub struct Unwritten {
+    pub count: usize,
+    pub error: io::Error,
 }
 
 // Writes bytes: all, or fewer where a write fails.
-pub fn write_full<W: io::Write>(to: &mut W, bytes: &[u8]) -> Moved
-    ensures counts { IsPrefixLen result.count bytes.now }
-    ensures all { IfNone result.failure (result.count ≡ length bytes.now) }
+pub fn write_full<W: io::Write>(to: &mut W, bytes: &[u8]) -> Result<(), Unwritten>
+    ensures count { IfErr result (λ unwritten. unwritten.count ≤ length bytes.now) }
+    ensures bytes { OnOk result (Appends (W.contents to.old) (W.contents to.new) bytes.now) }
 {
     let mut count = 0;
     while count < bytes.len() {
-        let more = write_some(to, &bytes[count..]);
-        if let Some(error) = more.failure {
-            return failed(count, error);
+        match write_some(to, &bytes[count..]) {
+            Ok(more) => count += more,
+            Err(error) => return Err(Unwritten { count, error }),
         }
-        count += more.count;
     }
-    well(count)
+    Ok(())
 }
 
-// One write: some bytes, or none where it fails.
-fn write_some<W: io::Write>(to: &mut W, bytes: &[u8]) -> Moved
-    ensures counts { IsPrefixLen result.count bytes.now }
-    ensures some { IfNone result.failure (0 < result.count) }
+// One write, of some bytes.
+fn write_some<W: io::Write>(to: &mut W, bytes: &[u8]) -> io::Result<usize>
+    ensures bound { WritesAtMost result bytes.now }
+    ensures some { IfOk result (λ count. 0 < count) }
+    ensures bytes { WriteAppends (W.contents to.old) (W.contents to.new) result bytes.now }
 {
     for _ in 0..CALLS {
         match to.write(bytes) {
-            Ok(0) => return failed(0, io::Error::from(ErrorKind::WriteZero)),
-            Ok(count) => return well(count),
+            Ok(0) => return Err(io::Error::from(ErrorKind::WriteZero)),
+            Ok(count) => return Ok(count),
             Err(error) if error.kind() == ErrorKind::Interrupted => {}
-            Err(error) => return failed(0, error),
+            Err(error) => return Err(error),
         }
     }
-    failed(0, io::Error::from(ErrorKind::Interrupted))
-}
-
-fn well(count: usize) -> Moved
-    ensures counted { result.count ≡ count }
-    ensures whole { result.failure ≡ None }
-{
-    Moved {
-        count,
-        failure: None,
-    }
-}
-
-fn failed(count: usize, error: io::Error) -> Moved
-    ensures counted { result.count ≡ count }
-    ensures why { result.failure ≡ Some error }
-{
-    Moved {
-        count,
-        failure: Some(error),
-    }
+    Err(io::Error::from(ErrorKind::Interrupted))
 }

@@ -8,24 +8,45 @@ mod run;
 pub mod say;
 mod text;
 
-ghost use Rattle.std.specs.Prelude.{◌≡◌, List, ℕ, ◌≤◌, length};
+ghost use Rattle.std.specs.Prelude.{◌≡◌, List, ℕ};
+ghost use Rattle.std.specs.Io.{ReadsAtMost};
+ghost use Rattle.std.specs.Io.KnownBytes.{Appends};
 ghost use Rattle.basin.specs.File.{load_call};
 ghost use Rattle.program.specs.Print.{load_text, printed};
-ghost use Rattle.program.specs.Workers.{Begins, IsPrefixLen, StartOf, Status};
+ghost use Rattle.program.specs.Ended.{status_of};
+ghost use Rattle.program.specs.Workers.{Prints, StartOf};
 
 use basin::file;
 use basin::file::Loaded;
+use print::Streams;
 use std::io::ErrorKind;
 use std::rt::Files;
 use std::{fs, io};
+use text::Output;
 
-// How a run ends: all was read and printed; the load was refused, the forcing ends inside a step, or a file could not be opened; a
-// read or a write failed on the way.
-pub const ALL: u64 = 0;
+// How a run ends.
+#[derive(Clone, Copy, Debug, PartialEq, Eq)]
+pub enum Ended {
+    // All was read and printed.
+    All,
+    // The load was refused, the forcing ends inside a step, or a file could not be opened.
+    NotAll,
+    // A read or a write failed on the way.
+    Failed,
+}
 
-pub const NOT_ALL: u64 = 1;
+// The exit status.
+impl From<Ended> for u8 {
+    ghost from_gives = { λ ended status. status ≡ status_of ended };
 
-pub const FAILED: u64 = 3;
+    fn from(ended: Ended) -> u8 {
+        match ended {
+            Ended::All => 0,
+            Ended::NotAll => 1,
+            Ended::Failed => 3,
+        }
+    }
+}
 
 // Runs on the files of these paths: prints their lines, says what keeps it from reading and printing all, and answers how that ends.
 pub fn account<F: Files, W: io::Write, E: io::Write>(
@@ -34,28 +55,28 @@ pub fn account<F: Files, W: io::Write, E: io::Write>(
     said: &mut E,
     basin: &[u8],
     forcing: &[u8],
-) -> u64
-    ensures { Status result }
+) -> Ended
+    ensures { Prints result (W.contents to.old) (W.contents to.new) }
 {
     // 4,096 bytes, which no legal basin file has: the start of a longer one is refused as the whole is.
     let mut bytes = [0u8; 4096];
-    let mut out = [0u8; run::OUT_BYTES];
+    let mut out = Output::new();
     let start = read_start(files, said, basin, &mut bytes);
-    let size = start.size;
+    let size = start.unwrap_or(0);
     let loaded = file::load(&bytes[..size]);
+    let mut streams = Streams { to, said };
     if loaded.number != 0 {
-        return refuse(to, said, &mut out, start, &bytes[..size], loaded);
+        return refuse(&mut streams, &mut out, start, &bytes[..size], loaded);
     }
-    let basin = loaded.basin;
     let mut file = match open(files, forcing) {
         Ok(file) => file,
         Err(error) => {
-            say::failed(said, b"forcing.bin: could not be opened", error);
-            return NOT_ALL;
+            say::failed(streams.said, b"forcing.bin: could not be opened", error);
+            return Ended::NotAll;
         }
     };
-    let ran = run::run(&mut file, to, said, basin, &mut out);
-    ran.status
+    let mut given = run::first_given(loaded.basin);
+    run::run(&mut file, &mut streams, &mut given, &mut out)
 }
 
 // Opens a file to be read. The library's paths are text: one that is none can't be opened.
@@ -66,73 +87,56 @@ fn open<F: Files>(files: &F, path: &[u8]) -> io::Result<F::File> {
     }
 }
 
-// The start of a file, and how its reading ended.
-#[derive(Drop)]
-struct Start {
-    size: usize,
-    ended: u64,
-}
-
-// Puts the start of a file into bytes: nothing of one that can't be opened or read.
+// Puts the start of a file into bytes, and answers how many there are. Where it can't be opened or read, that is said, and how the run
+// ends is answered.
 fn read_start<F: Files, E: io::Write>(
     files: &F,
     said: &mut E,
     path: &[u8],
     bytes: &mut [u8],
-) -> Start
-    ensures prefix_len { IsPrefixLen result.size bytes.new }
-    ensures status { Status result.ended }
+) -> Result<usize, Ended>
+    ensures { ReadsAtMost result bytes.new }
 {
     let mut file = match open(files, path) {
         Ok(file) => file,
         Err(error) => {
             say::failed(said, b"basin.bin: could not be opened", error);
-            return Start {
-                size: 0,
-                ended: NOT_ALL,
-            };
+            return Err(Ended::NotAll);
         }
     };
-    let read = calls::read_full(&mut file, bytes);
-    if let Some(error) = read.failure {
-        say::failed(said, b"basin.bin: could not be read", error);
-        return Start {
-            size: 0,
-            ended: FAILED,
-        };
-    }
-    Start {
-        size: read.count,
-        ended: ALL,
+    match calls::read_full(&mut file, bytes) {
+        Ok(count) => Ok(count),
+        Err(error) => {
+            say::failed(said, b"basin.bin: could not be read", error);
+            Err(Ended::Failed)
+        }
     }
 }
 
 // Prints a refused load, and says why where its reading has not said so. What is printed is all that document 01 has for every file that
 // starts with these bytes.
 fn refuse<W: io::Write, E: io::Write>(
-    to: &mut W,
-    said: &mut E,
-    out: &mut [u8],
-    start: Start,
+    streams: &mut Streams<'_, W, E>,
+    out: &mut Output,
+    start: Result<usize, Ended>,
     bytes: &[u8],
     loaded: Loaded,
-) -> u64
-    requires in_bounds { (129 ≤ length out.old) × Status start.ended }
-    requires loaded_value { (loaded ≡ load_call bytes.now) × (loaded.number ≡ 0 → ⊥) }
-    ensures status { Status result }
-    ensures begins { Begins (load_text loaded.number loaded.place) out.new }
-    ensures by_index { (file forcing : List ℕ) → StartOf file bytes.now → Begins (printed file forcing) out.new }
+) -> Ended
+    requires { (loaded ≡ load_call bytes.now) × (loaded.number ≡ 0 → ⊥) }
+    ensures same_reference { streams.new.to.ghost_name ≡ streams.old.to.ghost_name }
+    ensures text { out.new ≡ load_text loaded.number loaded.place }
+    ensures printed { (result ≡ Ended.Failed → ⊥)
+        → Appends (W.contents streams.old.to.now) (W.contents streams.new.to.now) (load_text loaded.number loaded.place) }
+    ensures whole { (file forcing : List ℕ) → StartOf file bytes.now → out.new ≡ printed file forcing }
 {
-    let end = print::put_load(out, loaded);
-    let printed = print::write(to, said, &out[..end], 1);
-    if start.ended == ALL {
-        say::refused_load(said, bytes, loaded.number, loaded.place);
+    out.set_load(loaded.number, loaded.place);
+    let is_printed = streams.print(out, 1);
+    if start.is_ok() {
+        say::refused_load(streams.said, bytes, loaded.number, loaded.place);
     }
-    if !printed {
-        return FAILED;
+    if is_printed {
+        start.err().unwrap_or(Ended::NotAll)
+    } else {
+        Ended::Failed
     }
-    if start.ended == ALL {
-        return NOT_ALL;
-    }
-    start.ended
 }

@@ -1,12 +1,14 @@
 // The steps of the forcing file. Each is taken and its line printed when its bytes have come, up to 64 at a time, so that a file of
 // any length takes the same room.
-ghost use Rattle.std.specs.Prelude.{◌≡◌, ◌+◌, ◌*◌, ◌≤◌, ◌<◌, ◌^◌, length, take};
-ghost use Rattle.std.proofs.Math.Seq.{slice};
+ghost use Rattle.std.specs.Prelude.{◌≡◌, ◌+◌, ◌*◌, ◌≤◌, ◌<◌, ◌^◌, length, take, IfOk};
+ghost use Rattle.std.specs.Io.KnownBytes.{Appends};
 ghost use Rattle.program.specs.Print.{step_bytes, part_text};
-ghost use Rattle.program.specs.Workers.{Begins, Ends, RunOf, Stepped};
+ghost use Rattle.program.specs.Ended.{Ends};
+ghost use Rattle.program.specs.Workers.{RunOf, Stepped};
 
-use crate::calls::Moved;
-use crate::{ALL, FAILED, NOT_ALL, calls, print, say};
+use crate::print::Streams;
+use crate::text::Output;
+use crate::{Ended, calls, say};
 use basin::state::Basin;
 use basin::step;
 use basin::step::{Outcome, Report};
@@ -14,166 +16,14 @@ use curve::capacity;
 use forcing::file;
 use std::io;
 
-// The most steps that are taken at a time, and the most bytes of their lines.
+// The most steps that are taken at a time.
 const STEPS: u64 = 64;
 
-pub const OUT_BYTES: usize = 8256;
 // More reads than a run has time for.
 const READS: u64 = 36028797018963968; // 2^55
 
-// How a run ended, and how far it came: the last basin, how many steps were taken, and how many bytes came of the one after them.
-#[derive(Drop)]
-pub struct Ran {
-    pub status: u64,
-    pub basin: Basin,
-    pub done: u64,
-    pub kept: usize,
-}
-
-// Takes the steps that are read to their end and prints their lines, which are put at the start of the output.
-pub fn run<R: io::Read, W: io::Write, E: io::Write>(
-    from: &mut R,
-    to: &mut W,
-    said: &mut E,
-    basin: Basin,
-    out: &mut [u8],
-) -> Ran
-    requires { (1 ≤ basin.n) × (basin.n ≤ 32) × (8256 ≤ length out.old) }
-    ensures { RunOf basin result.status result.basin result.done result.kept out.new }
-{
-    let size = (file::LINE_BYTES * basin.n) as usize;
-    let whole = STEPS as usize * size;
-    let mut input = [0u8; 24576];
-    let mut kept = 0;
-    let mut done: u64 = 0;
-    let mut given = first_given(basin);
-    let mut reads: u64 = 0;
-    while reads < READS {
-        let read = read_after(from, &mut input, kept, whole);
-        if let Some(error) = read.failure {
-            say::unread(said, done, error);
-            return answer(FAILED, given, done, kept);
-        }
-        if read.count == 0 {
-            let status = end_run(to, said, out, done, kept, size);
-            return answer(status, given, done, kept);
-        }
-        let end = kept + read.count;
-        let taken = take_steps(&input[..end], out, given, basin.n, done);
-        let lines = taken.end;
-        if !print::write(to, said, &out[..lines], done + 1) {
-            return answer(FAILED, given, done, kept);
-        }
-        given = taken.given;
-        done += taken.steps;
-        kept = keep(&mut input, taken.bytes, end);
-        reads += 1;
-    }
-    let status = end_run(to, said, out, done, kept, size);
-    answer(status, given, done, kept)
-}
-
-fn answer(status: u64, given: Outcome, done: u64, kept: usize) -> Ran
-    ensures { (result.status ≡ status) × (result.basin ≡ given.basin) × (result.done ≡ done) × (result.kept ≡ kept) }
-{
-    let basin = given.basin;
-    Ran {
-        status,
-        basin,
-        done,
-        kept,
-    }
-}
-
-// Puts the line of a part step of size bytes, where some of it has come, prints it, and answers how the run ends.
-fn end_run<W: io::Write, E: io::Write>(
-    to: &mut W,
-    said: &mut E,
-    out: &mut [u8],
-    done: u64,
-    kept: usize,
-    size: usize,
-) -> u64
-    requires { (129 ≤ length out.old) × (done < 2 ^ 62) }
-    ensures ends { Ends kept result }
-    ensures begins { Begins (part_text kept) out.new }
-{
-    if kept == 0 {
-        return ALL;
-    }
-    let end = print::put_short(out, kept as u64);
-    let printed = print::write(to, said, &out[..end], done + 1);
-    say::short(said, kept as u64, size as u64, done + 1);
-    if !printed {
-        return FAILED;
-    }
-    NOT_ALL
-}
-
-// What the steps of some bytes leave: the last outcome, how many steps and bytes that were, and where their lines end in the output.
-#[derive(Drop)]
-struct Taken {
-    given: Outcome,
-    steps: u64,
-    bytes: usize,
-    end: usize,
-}
-
-// Takes the whole steps of bytes and puts their lines at the start of the output. Before them `done` steps were taken.
-fn take_steps(bytes: &[u8], out: &mut [u8], given: Outcome, n: u64, done: u64) -> Taken
-    requires { (1 ≤ n) × (n ≤ 32) × (length bytes.now ≤ 64 * step_bytes n) × (8256 ≤ length out.old) × (done < 2 ^ 62) }
-    ensures { Stepped given.basin n done bytes.now result.given.basin result.steps result.bytes out.new result.end }
-{
-    let size = (file::LINE_BYTES * n) as usize;
-    let roots = capacity::printed_roots();
-    let mut given = given;
-    let mut at = 0;
-    let mut end = 0;
-    let mut i: u64 = 0;
-    while bytes.len() - at >= size {
-        let next = at + size;
-        let lines = file::lines_of(&bytes[at..next], n);
-        let before = given.basin;
-        given = step::step_with(&roots, before, lines, n);
-        let report = given.report;
-        end = print::put_step(out, end, done + i + 1, given.number, given.place, report);
-        at = next;
-        i += 1;
-    }
-    Taken {
-        given,
-        steps: i,
-        bytes: at,
-        end,
-    }
-}
-
-// Reads what is there, from index `from` up to index `to`; what lies before stays.
-fn read_after<R: io::Read>(source: &mut R, input: &mut [u8], from: usize, to: usize) -> Moved
-    requires { (from ≤ to) × (to ≤ length input.old) }
-    ensures count_bound { from + result.count ≤ to }
-    ensures input_unchanged { take from input.new ≡ take from input.old }
-{
-    calls::read_some(source, &mut input[from..to])
-}
-
-// Moves what lies from index `from` up to index `to` to the start, and answers how many bytes that is.
-fn keep(input: &mut [u8], from: usize, to: usize) -> usize
-    requires { (from ≤ to) × (to ≤ length input.old) }
-    ensures from_value { result + from ≡ to }
-    ensures input_after { take result input.new ≡ slice from to input.old }
-{
-    let left = to - from;
-    let mut i = 0;
-    while i < left {
-        input[i] = input[from + i];
-        i += 1;
-    }
-    left
-}
-
 // What the first step goes on from: the basin, with nothing reported.
-fn first_given(basin: Basin) -> Outcome
+pub fn first_given(basin: Basin) -> Outcome
     ensures { result.basin ≡ basin }
 {
     Outcome {
@@ -188,4 +38,109 @@ fn first_given(basin: Basin) -> Outcome
             estimated: 0,
         },
     }
+}
+
+// Takes the steps that are read to their end, prints their lines, and answers how that ends. What is given becomes the outcome of the
+// last step, and what was printed last is left in the output.
+pub fn run<R: io::Read, W: io::Write, E: io::Write>(
+    from: &mut R,
+    streams: &mut Streams<'_, W, E>,
+    given: &mut Outcome,
+    out: &mut Output,
+) -> Ended
+    requires { (1 ≤ given.old.basin.n) × (given.old.basin.n ≤ 32) }
+    ensures same_reference { streams.new.to.ghost_name ≡ streams.old.to.ghost_name }
+    ensures run { RunOf given.old.basin result given.new.basin out.new
+        (W.contents streams.old.to.now) (W.contents streams.new.to.now) }
+{
+    let n = given.basin.n;
+    let size = (file::LINE_BYTES * n) as usize;
+    let whole = STEPS as usize * size;
+    let mut input = [0u8; 24576];
+    let mut kept = 0;
+    let mut done: u64 = 0;
+    for _reads in 0..READS {
+        let count = match read_after(from, &mut input, kept, whole) {
+            Ok(0) => break,
+            Ok(count) => count,
+            Err(error) => {
+                say::unread(streams.said, done, error);
+                return Ended::Failed;
+            }
+        };
+        let end = kept + count;
+        let first = done + 1;
+        let steps = take_steps(&input[..end], out, given, n, done);
+        done += steps;
+        let used = steps as usize * size;
+        input.copy_within(used..end, 0);
+        kept = end - used;
+        if !streams.print(out, first) {
+            return Ended::Failed;
+        }
+    }
+    end_run(streams, out, done, kept, size)
+}
+
+// Leaves the line of a part step of size bytes in the output, where some of it has come, prints it, and answers how the run ends.
+#[tactic(auto, using(crate::proofs::print::PrintLaws::no_part, crate::proofs::print::PrintLaws::some_part))]
+fn end_run<W: io::Write, E: io::Write>(
+    streams: &mut Streams<'_, W, E>,
+    out: &mut Output,
+    done: u64,
+    kept: usize,
+    size: usize,
+) -> Ended
+    requires { done < 2 ^ 62 }
+    ensures same_reference { streams.new.to.ghost_name ≡ streams.old.to.ghost_name }
+    ensures ends { Ends kept result }
+    ensures part_put { out.new ≡ part_text kept }
+    ensures printed { (result ≡ Ended.Failed → ⊥)
+        → Appends (W.contents streams.old.to.now) (W.contents streams.new.to.now) (part_text kept) }
+{
+    if kept == 0 {
+        out.clear();
+        return Ended::All;
+    }
+    out.set_short(kept as u64);
+    let is_printed = streams.print(out, done + 1);
+    say::short(streams.said, kept as u64, size as u64, done + 1);
+    if is_printed {
+        Ended::NotAll
+    } else {
+        Ended::Failed
+    }
+}
+
+// Takes the whole steps of bytes, puts their lines into the output in place of what is there, and answers how many steps these are.
+// Before them `done` steps were taken.
+fn take_steps(bytes: &[u8], out: &mut Output, given: &mut Outcome, n: u64, done: u64) -> u64
+    requires { (1 ≤ n) × (n ≤ 32) × (length bytes.now ≤ 64 * step_bytes n) × (done < 2 ^ 62) }
+    ensures { Stepped given.old.basin n done bytes.now given.new.basin result out.new }
+{
+    let size = (file::LINE_BYTES * n) as usize;
+    let roots = capacity::printed_roots();
+    out.clear();
+    let mut steps: u64 = 0;
+    for words in bytes.chunks_exact(size) {
+        steps += 1;
+        let lines = file::lines_of(words, n);
+        *given = step::step_with(&roots, given.basin, lines, n);
+        out.put_step(done + steps, given);
+    }
+    steps
+}
+
+// Reads what is there, from index `from` up to index `to`; what lies before stays.
+fn read_after<R: io::Read>(
+    source: &mut R,
+    input: &mut [u8],
+    from: usize,
+    to: usize,
+) -> io::Result<usize>
+    requires { (from ≤ to) × (to ≤ length input.old) }
+    ensures count_bound { IfOk result (λ count. from + count ≤ to) }
+    ensures input_unchanged { take from input.new ≡ take from input.old }
+{
+    calls::read_some(source, &mut input[from..to])
 }

@@ -1,95 +1,82 @@
-// Text, put at a place of the output: each function answers where what it put ends.
-ghost use Rattle.std.specs.Prelude.{◌≡◌, ◌++◌, ◌+◌, ◌*◌, ◌≤◌, length, take};
+// The output: text that is put together before it is printed.
+ghost use Rattle.std.specs.Prelude.{◌≡◌, List, ℕ, [], ◌++◌, ◌+◌, ◌*◌, ◌≤◌, length, take};
 ghost use Rattle.program.specs.Print.{decimal};
-ghost use Rattle.program.specs.Workers.{IsPrefixLen};
+ghost use Rattle.program.specs.Workers.{numbers_text};
 
-use subbasin::record::NAME_BYTES;
+use std::marker::Model;
 
-pub fn put(out: &mut [u8], at: usize, text: &[u8]) -> usize
-    requires { at + length text.now ≤ length out.old }
-    ensures value { result ≡ at + length text.now }
-    ensures prefix_len { IsPrefixLen result out.new }
-    ensures out_after { take result out.new ≡ take at out.old ++ text.now }
-{
-    let mut i = 0;
-    while i < text.len() {
-        out[at + i] = text[i];
-        i += 1;
-    }
-    at + text.len()
+// Room for the lines of 64 steps, of at most 129 bytes each.
+pub const ROOM: usize = 8256;
+
+#[derive(Drop)]
+pub struct Output {
+    bytes: [u8; ROOM],
+    len: usize,
 }
 
-pub fn put_number(out: &mut [u8], at: usize, n: u64) -> usize
-    requires { at + 20 ≤ length out.old }
-    ensures upper_bound { result ≤ at + 20 }
-    ensures prefix_len { IsPrefixLen result out.new }
-    ensures out_after { take result out.new ≡ take at out.old ++ decimal n }
-{
-    put_digits(out, at, n)
+// Clauses see the text.
+impl Model for Output {
+    ghost Value = { List ℕ };
+
+    ghost view = { λ out. take out.len out.bytes };
+
+    ghost invariant = { λ out. out.len ≤ 8256 };
 }
 
-// The digits of a number below 10 are its one digit, those of any other its tenth's and then its last one.
-fn put_digits(out: &mut [u8], at: usize, n: u64) -> usize
-    requires { at + length (decimal n) ≤ length out.old }
-    ensures value { result ≡ at + length (decimal n) }
-    ensures out_after { take result out.new ≡ take at out.old ++ decimal n }
-{
-    if n < 10 {
-        out[at] = b'0' + n as u8;
-        return at + 1;
-    }
-    let end = put_digits(out, at, n / 10);
-    out[end] = b'0' + (n % 10) as u8;
-    end + 1
-}
-
-// A text, and after it a number.
-pub fn put_with(out: &mut [u8], at: usize, text: &[u8], n: u64) -> usize
-    requires { at + length text.now + 20 ≤ length out.old }
-    ensures upper_bound { result ≤ at + length text.now + 20 }
-    ensures prefix_len { IsPrefixLen result out.new }
-    ensures out_after { take result out.new ≡ take at out.old ++ (text.now ++ decimal n) }
-{
-    let end = put(out, at, text);
-    put_number(out, end, n)
-}
-
-// How many lines end in bytes.
-pub fn lines_in(bytes: &[u8]) -> u64
-    ensures { result ≤ length bytes.now }
-{
-    let mut lines: u64 = 0;
-    let mut i = 0;
-    while i < bytes.len() {
-        lines += ends_line(bytes[i]);
-        i += 1;
-    }
-    lines
-}
-
-fn ends_line(byte: u8) -> u64
-    ensures { result ≤ 1 }
-{
-    if byte == b'\n' {
-        return 1;
-    }
-    0
-}
-
-// Name k of names, without the blanks at its end.
-pub fn put_name(out: &mut [u8], at: usize, names: &[u8], k: usize) -> usize
-    requires at_in_bounds { at + 5 ≤ length out.old }
-    requires k_in_bounds { 5 * k + 5 ≤ length names.now }
-    ensures { result ≤ at + 5 }
-{
-    let mut i = 0;
-    while i < NAME_BYTES {
-        let letter = names[NAME_BYTES * k + i];
-        if letter == b' ' {
-            break;
+impl Output {
+    pub fn new() -> Self
+        ensures { result ≡ [] }
+    {
+        Output {
+            bytes: [0; ROOM],
+            len: 0,
         }
-        out[at + i] = letter;
-        i += 1;
     }
-    at + i
+
+    pub fn as_bytes(&self) -> &[u8]
+        ensures { result.now ≡ self.now }
+    {
+        let all = &self.bytes[..];
+        &all[..self.len]
+    }
+
+    pub fn clear(&mut self)
+        ensures { self.new ≡ [] }
+    {
+        self.len = 0;
+    }
+
+    // A word, and after it numbers with a blank before each; the line ends there.
+    pub fn put_words(&mut self, word: &str, numbers: &[u64])
+        requires { length self.old + length word.now + 21 * length numbers.now + 1 ≤ ROOM }
+        ensures text { self.new ≡ self.old ++ (word.now ++ numbers_text numbers.now) }
+        ensures len { length self.new ≤ length self.old + length word.now + 21 * length numbers.now + 1 }
+    {
+        self.put(word);
+        for n in numbers {
+            self.put(" ");
+            self.put_number(*n);
+        }
+        self.put("\n");
+    }
+
+    pub fn put_number(&mut self, n: u64)
+        requires { length self.old + 20 ≤ ROOM }
+        ensures text { self.new ≡ self.old ++ decimal n }
+        ensures len { length self.new ≤ length self.old + 20 }
+    {
+        let mut digits = itoa::Buffer::new();
+        self.put(digits.format(n));
+    }
+
+    fn put(&mut self, text: &str)
+        requires { length self.old + length text.now ≤ ROOM }
+        ensures text { self.new ≡ self.old ++ text.now }
+        ensures len { length self.new ≡ length self.old + length text.now }
+    {
+        let end = self.len + text.len();
+        let all = &mut self.bytes[..];
+        all[self.len..end].copy_from_slice(text.as_bytes());
+        self.len = end;
+    }
 }

@@ -3,6 +3,7 @@
 #![tactic(auto)]
 
 use program::say;
+use std::fmt::InlineText;
 use std::io;
 use testing::lines;
 
@@ -21,7 +22,7 @@ fn main(rt: HostRuntime) -> io::Result<()> {
 }
 
 fn cases(rt: HostRuntime) -> io::Result<()> {
-    for number in 1..CASES + 1 {
+    for number in 1..=CASES {
         run(rt, number)?;
     }
     Ok(())
@@ -30,14 +31,16 @@ fn cases(rt: HostRuntime) -> io::Result<()> {
 // The case in the folder of this number.
 fn run(rt: HostRuntime, number: u8) -> io::Result<()> {
     lines::line(&rt, b"case", &[number as u64])?;
-    let mut basin = *b"00/basin.bin";
-    basin[0] = b'0' + number / 10 % 10;
-    basin[1] = b'0' + number % 10;
-    let mut forcing = *b"00/forcing.bin";
-    forcing[0] = basin[0];
-    forcing[1] = basin[1];
-    let ended = program::account(&rt, &mut rt.stdout(), &mut rt.stderr(), &basin, &forcing);
-    lines::line(&rt, b"status", &[ended])
+    let basin = InlineText::<14>::of(format_args!("{number:02}/basin.bin"));
+    let forcing = InlineText::<14>::of(format_args!("{number:02}/forcing.bin"));
+    let ended = program::account(
+        &rt,
+        &mut rt.stdout(),
+        &mut rt.stderr(),
+        basin.as_str().as_bytes(),
+        forcing.as_str().as_bytes(),
+    );
+    lines::line(&rt, b"status", &[u64::from(u8::from(ended))])
 }
 
 // What is said of a file with n sub-basins and m reaches, of every word of it last.

@@ -8,10 +8,12 @@ use lib.ListN.{length, drop, length-append, length-drop}
 use lib.Seq.{drop-nil, drop-drop}
 use borrow.Author.Tests.{eq-eqb, ne_eqb}
 use Rattle.basin.specs.declared.state.Basin.{Basin}
+use Rattle.basin.specs.declared.file.Loaded.{Loaded}
 use Rattle.basin.specs.File.{load_call}
 use Rattle.basin.specs.Calls.{last_basin}
-use Rattle.basin.proofs.file.LoadedLaws.{accepted_within, words_loaded, loaded_n}
+use Rattle.basin.proofs.file.LoadedLaws.{start_loads, accepted_within, words_loaded, loaded_n}
 use Rattle.program.specs.Print.{step_bytes, calls_in, whole_steps, part_bytes, calls_of, load_text, steps_text, part_text, run_text, printed}
+use Rattle.program.specs.Workers.{StartOf}
 use Rattle.program.proofs.run.CallsLaws.{last_append, text_append, calls_length}
 use Rattle.program.proofs.run.CallsLaws.{whole_is, part_is, whole_least, whole_most, rest_more, calls_rest}
 
@@ -84,9 +86,40 @@ pub printed_refused : (basin forcing : List ℕ) → ((load_call basin).number �
 unfolding printed
 printed_refused basin forcing bad = rw (ne_eqb (load_call basin).number 0 bad)
 
+-- the line of a refused load is all that is printed
+pub printed_all : (basin forcing : List ℕ) {loaded : Loaded} → loaded ≡ load_call basin → (loaded.number ≡ 0 → ⊥)
+    → load_text loaded.number loaded.place ≡ printed basin forcing
+printed_all basin forcing e bad = ap (λ (l : Loaded). load_text l.number l.place) e ∙ sym (printed_refused basin forcing (rw e at bad))
+
+-- and so it is of every file with this start
+pub printed_start : {bytes : List ℕ} {loaded : Loaded} {out : List ℕ} → (loaded ≡ load_call bytes) × (loaded.number ≡ 0 → ⊥)
+    → out ≡ load_text loaded.number loaded.place
+    → (file forcing : List ℕ) → StartOf file bytes → out ≡ printed file forcing
+printed_start {loaded = loaded} refused text file forcing start =
+    let whole : loaded ≡ load_call file = refused.0 ∙ ap load_call start ∙ start_loads 4096 (omega arith) file in
+    text ∙ printed_all file forcing whole refused.1
+
+pub loaded_some : (basin : List ℕ) {loaded : Loaded} → loaded ≡ load_call basin → loaded.number ≡ 0 → 1 ≤ loaded.basin.n
+loaded_some basin e good = (loaded_n ((accepted_within basin e).0 good) (words_loaded basin e good)).0
+
+-- of a load that is accepted the steps are printed
+pub printed_accepted : (basin forcing : List ℕ) {loaded : Loaded} → loaded ≡ load_call basin → loaded.number ≡ 0
+    → run_text loaded.basin forcing ≡ printed basin forcing
+unfolding printed
+printed_accepted basin forcing e good =
+    ap (λ (l : Loaded). run_text l.basin forcing) e ∙ sym (rw (eq-eqb (load_call basin).number 0 (rw e at good)) refl)
+
+-- and nothing where there are none
+pub run_nothing : (b : Basin) → 1 ≤ b.n → run_text b [] ≡ []
+unfolding calls_in calls_of steps_text part_text run_text
+run_nothing b some =
+    let none : whole_steps b.n [] ≡ 0 = sym (whole_is b.n [] 0 0 (omega arith) (omega arith)) in
+    let left : part_bytes b.n [] ≡ 0 = sym (part_is b.n [] 0 0 (omega arith) (omega arith)) in
+    rw (none, left) refl
+
 pub printed_by_reads : (basin : List ℕ) → (load_call basin).number ≡ 0 → (reads : List (List ℕ))
     → reads_text (load_call basin).basin.n (load_call basin).basin 0 [] reads ≡ printed basin (flatten reads)
 unfolding run_text printed
 printed_by_reads basin good reads =
     rw (eq-eqb (load_call basin).number 0 good)
-    (reads_text_lem (load_call basin).basin.n (loaded_n ((accepted_within basin refl).0 good) (words_loaded basin refl good)).0 (load_call basin).basin reads)
+    (reads_text_lem (load_call basin).basin.n (loaded_some basin refl good) (load_call basin).basin reads)

@@ -1,10 +1,12 @@
--- `program::run::take_steps` meets its contract: i steps are taken. The measure is the count of bytes that are left. Assumes nothing.
-use Rattle.std.proofs.Common.{length, ◌-◌}
+-- `program::run::take_steps` meets its contract: so many steps are taken. Assumes nothing.
+use Rattle.std.proofs.Common.{◌≡◌}
+use Rattle.std.specs.Slice.Iter.{chunks_exact_rest, chunks_exact_size}
+use Rattle.program.specs.Print.{step_bytes}
 use Rattle.program.proofs.run.TakeLaws.{Taking}
 use Rattle.program.proofs.run.take_steps.Given as goal
 
-abbrev pub invariant-loop-at : goal.invariant-loop-at
-invariant-loop-at l = Taking l.initial.given.basin l.n l.done l.bytes l.i l.at l.end l.given.basin l.out
-
-abbrev pub decreases-loop-at : goal.decreases-loop-at
-decreases-loop-at l = length l.bytes - l.at
+abbrev pub invariant-loop-words : goal.invariant-loop-words
+invariant-loop-words l = record {
+  size_is : chunks_exact_size l.words-iterator ≡ step_bytes l.n;
+  taking : Taking l.initial.given.basin l.n l.done l.bytes l.steps (chunks_exact_rest l.words-iterator) l.given.basin l.out;
+}

@@ -1,0 +1,2 @@
+-- Reading and writing: what a writer holds.
+mod KnownLaws

@@ -1,0 +1,18 @@
+-- How a run ends, and the exit status of that: no part of document 01.
+use Rattle.std.specs.Prelude.{◌≡◌, ℕ, Bool, cond, eqb}
+use Rattle.program.specs.declared.Ended.{Ended}
+use Rattle.program.specs.declared.Ended.TheVariants.{All, NotAll, Failed}
+
+abbrev pub status_of : Ended → ℕ
+status_of All = 0
+status_of NotAll = 1
+status_of Failed = 3
+
+-- How a run ends that keeps so many bytes of a part step: Failed where a read or a write failed, else All where there are none, else
+-- NotAll.
+abbrev pub ended_of : Bool → ℕ → Ended
+ended_of failed kept = cond failed Failed (cond (eqb kept 0) All NotAll)
+
+pub record Ends (kept : ℕ) (ended : Ended) : Type 0 where
+  pub failed : Bool
+  pub ended_is : ended ≡ ended_of failed kept
