@@ -68,10 +68,11 @@ pub const CHOSEN: [Patterns; 24] = [
 // From 0.0625 mm on, rain rising and pan falling.
 pub fn good() -> [Line; 32] {
     let mut lines = [line_of(0, 0, 0); 32];
-    for k in 0u32..32 {
+    for (k, line) in lines.iter_mut().enumerate() {
+        let k = k as u32;
         let rain = 0x3d80_0000 + k * 3400000;
         let pan = 0x3d80_0000 + (31 - k) * 2700000;
-        lines[k as usize] = line_of(1 + k % 3 / 2, rain, pan);
+        *line = line_of(1 + k % 3 / 2, rain, pan);
     }
     lines
 }

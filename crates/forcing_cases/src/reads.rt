@@ -89,7 +89,11 @@ pub fn any(rt: &impl Print) -> io::Result<()> {
         let count = if y % 16 == 0 { y / 16 % 40 } else { n };
         let given = read(readings::any(&mut chance), count, n);
         if i % 2500 == 0 {
-            println!(rt; "read {n} {count}{}{}", Row(&given.told), Row(&given.depths))?;
+            println!(rt;
+                "read {n} {count}{}{}",
+                Row(&given.told),
+                Row(&given.depths)
+            )?;
         }
         given.add(&mut sum);
     }
