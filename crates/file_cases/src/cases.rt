@@ -55,7 +55,13 @@ pub fn counts(rt: &impl Print) -> io::Result<()> {
             let mut file = base;
             file.put(0, n);
             file.put(1, m);
-            let whole = load(&mut sum, &File { size: size_of(n, m), ..file });
+            let whole = load(
+                &mut sum,
+                &File {
+                    size: size_of(n, m),
+                    ..file
+                },
+            );
             let short = load(&mut sum, &File { size: 8, ..file });
             println!(rt; "counts {n} {m}{}{}", Row(&whole), Row(&short))?;
         }
