@@ -32,6 +32,25 @@ pub fn drawn<const N: usize>(i: u64, chance: &mut Chance) -> [Line; N] {
     lines
 }
 
+// What a place holds where no line is.
+pub const BLANK: Line = Line {
+    rain: Reading::Missing,
+    pan: 0.0,
+};
+
+// The three steps of case A, one line each.
+pub const CASE_A: [Line; 3] = [
+    Line {
+        rain: Reading::Measured(135.0),
+        pan: 0.0,
+    },
+    BLANK,
+    Line {
+        rain: Reading::Measured(0.0),
+        pan: 10.0,
+    },
+];
+
 // Another rain or another pan than may be.
 #[derive(Clone, Copy)]
 pub enum Fault {

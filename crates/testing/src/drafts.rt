@@ -8,7 +8,7 @@ use crate::{choices, ranges};
 use std::fmt;
 
 // Every reach flows to the next, to the last, to the one above it in a tree of twos, to any further one, or to one by choice.
-#[derive(Clone, Copy)]
+#[derive(Clone, Copy, PartialEq, Eq)]
 pub enum Shape {
     Chain,
     Star,
@@ -41,6 +41,13 @@ pub struct Plan {
     pub shape: Shape,
     pub n: u64,
     pub m: u64,
+}
+
+// Its shape, its choice, N and M.
+impl fmt::Display for Plan {
+    fn fmt<W: fmt::Write>(&self, f: &mut fmt::Formatter<W>) -> fmt::Result {
+        write!(f, "{} {} {} {}", self.shape, self.choice, self.n, self.m)
+    }
 }
 
 impl Plan {
