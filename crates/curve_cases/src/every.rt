@@ -42,8 +42,8 @@ pub fn exponents(rt: &impl Print) -> io::Result<()> {
 
 fn spread(rt: &impl Print, call: Call, e: u64) -> io::Result<()> {
     let mut sum = Checksum::new();
-    for i in 0..517 {
-        call.add(&mut sum, [65536 - i * 127, e, 0, 0]);
+    for t in (0..=65536).rev().step_by(127) {
+        call.add(&mut sum, [t, e, 0, 0]);
     }
     println!(rt; "spread {call} {e} {sum}")
 }
