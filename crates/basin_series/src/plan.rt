@@ -5,10 +5,7 @@ use basin_testing::{calls, places};
 use std::io;
 use testing::chance::Chance;
 use testing::choices::Choice;
-use testing::drafts::{Plan, Shape};
-
-// N and M.
-const SIZES: [(u64, u64); 6] = [(32, 31), (7, 5), (1, 0), (2, 1), (32, 0), (1, 31)];
+use testing::drafts::{Plan, SIZES, Shape};
 
 // Series of every shape with every choice and every size, and then from brimming basins of every shape; the generator goes on from
 // series to series. Of every choice one last basin is printed, each of another size.

@@ -24,7 +24,7 @@ fn millimetres(depth: u64) -> f32 {
 
 // Lines of step i.
 pub fn drawn<const N: usize>(i: u64, chance: &mut Chance) -> [Line; N] {
-    let mut lines = [line(i, 0, 0); N];
+    let mut lines = [BLANK; N];
     for here in &mut lines {
         let [x, y] = chance.draws::<2>();
         *here = line(i, x, y);

@@ -78,6 +78,7 @@ fn chain(way: Way, roots: &Roots, count: u64) -> u64
     r
 }
 
+// One chain for all ways, so that idle takes what the others take beside their calls.
 fn turn(way: Way, roots: &Roots, i: u64, r: u64) -> u64
     requires { i ≤ 6553600 }
 {

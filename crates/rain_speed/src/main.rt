@@ -170,6 +170,7 @@ fn enlarge(s: &mut SubBasin, bn: u64, im: u64) {
     s.fixed.im = im;
 }
 
+// One turn for all ways, so that idle takes what the others take beside their calls.
 fn turn(way: Way, state: State, mut s: SubBasin, sum: &mut Checksum) {
     let most = Weather {
         rain: 1000000,

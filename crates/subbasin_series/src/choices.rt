@@ -1,13 +1,14 @@
 // Numbers put at the places of a record, in order and within their ranges.
 use crate::calls::record_range;
+use std::ops::Range;
 use subbasin::record::{MOST_SLOW, MOST_START, SubBasin};
 use testing::chance::Chance;
 use testing::choices::Choice;
 use testing::rows;
 
-// The places from..to by choice, within the ranges of a basin file.
-pub fn choose(s: &mut SubBasin, choice: Choice, from: usize, to: usize, chance: &mut Chance) {
-    for place in from..to {
+// The places by choice, within the ranges of a basin file.
+pub fn choose(s: &mut SubBasin, choice: Choice, places: Range<usize>, chance: &mut Chance) {
+    for place in places {
         let [x, y] = chance.draws::<2>();
         let v = choice.among(place, record_range(s, place, MOST_START), x, y);
         rows::put(s, place, v);
@@ -31,10 +32,10 @@ pub fn fit(s: &mut SubBasin) {
     }
 }
 
-// The record with the places from..to by choice, the others fitted to them.
-pub fn replaced(record: SubBasin, choice: Choice, from: usize, to: usize) -> SubBasin {
+// The record with the places by choice, the others fitted to them.
+pub fn replaced(record: SubBasin, choice: Choice, places: Range<usize>) -> SubBasin {
     let mut s = record;
-    choose(&mut s, choice, from, to, &mut Chance::new());
+    choose(&mut s, choice, places, &mut Chance::new());
     fit(&mut s);
     s
 }

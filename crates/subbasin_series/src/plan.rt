@@ -32,7 +32,7 @@ const REPLACED: [(&str, Choice, usize); 4] = [
 // The middling sub-basin with several numbers at their ends.
 pub fn extremes(rt: &impl Print) -> io::Result<()> {
     for (name, choice, from) in REPLACED {
-        let start = replaced(basins::middling(), choice, from, record::WORDS);
+        let start = replaced(basins::middling(), choice, from..record::WORDS);
         extreme(rt, name, start)?;
     }
     extreme(rt, "one layer", basins::one_layer(70000, 25000))?;
@@ -52,8 +52,8 @@ fn extreme(rt: &impl Print, name: &str, start: SubBasin) -> io::Result<()> {
 pub fn ends(rt: &impl Print) -> io::Result<()> {
     let mut chance = Chance::new();
     for place in 0..record::WORDS {
-        let least = replaced(basins::middling(), Choice::Least, place, place + 1);
-        let most = replaced(basins::middling(), Choice::Most, place, place + 1);
+        let least = replaced(basins::middling(), Choice::Least, place..place + 1);
+        let most = replaced(basins::middling(), Choice::Most, place..place + 1);
         let first = series::run(rt, least, Climate::Spells, &mut chance, 1000)?;
         let second = series::run(rt, most, Climate::Spells, &mut chance, 1000)?;
         println!(rt; "ends {place} {first} {second}")?;
@@ -66,7 +66,7 @@ pub fn drawn(rt: &impl Print, name: &str, choice: Choice, climate: Climate) -> i
     let mut chance = Chance::new();
     for k in 0..100 {
         let mut start = basins::case_a();
-        choose(&mut start, choice, 0, rows::CHANNEL, &mut chance);
+        choose(&mut start, choice, 0..rows::CHANNEL, &mut chance);
         let sum = series::run(rt, start, climate, &mut chance, 1000)?;
         println!(rt; "{name} {k} {sum}")?;
     }

@@ -34,6 +34,9 @@ impl fmt::Display for Shape {
     }
 }
 
+// N and M: the most, the least, few of each, and many of one and few of the other.
+pub const SIZES: [(u64, u64); 6] = [(32, 31), (7, 5), (1, 0), (2, 1), (32, 0), (1, 31)];
+
 // What a file is to be.
 #[derive(Clone, Copy)]
 pub struct Plan {

@@ -1,7 +1,6 @@
-// What is printed: words, then numbers in decimal with a space before each.
+// Numbers as they are printed: in decimal with a space before each.
 use std::{fmt, io};
 
-// Numbers with a space before each.
 #[derive(Clone, Copy)]
 pub struct Row<'a>(pub &'a [u64]);
 
@@ -14,7 +13,7 @@ impl fmt::Display for Row<'_> {
     }
 }
 
-// A whole line.
+// A whole line that begins with a name.
 pub fn line(rt: &impl Print, name: &[u8], numbers: &[u64]) -> io::Result<()> {
     rt.write_all(name)?;
     println!(rt; "{}", Row(numbers))

@@ -26,6 +26,9 @@ pub enum Edge {
 impl Edge {
     pub const ALL: [Edge; 5] = [Edge::Below, Edge::Least, Edge::Most, Edge::Above, Edge::Far];
 
+    // All but the greatest u64.
+    pub const NEAR: [Edge; 4] = [Edge::Below, Edge::Least, Edge::Most, Edge::Above];
+
     pub const OUTSIDE: [Edge; 3] = [Edge::Below, Edge::Above, Edge::Far];
 }
 

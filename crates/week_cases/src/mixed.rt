@@ -9,10 +9,7 @@ use forcing::list::Line;
 use std::io;
 use testing::chance::Chance;
 use testing::choices::Choice;
-use testing::drafts::{Plan, Shape};
-
-// N and M.
-const SIZES: [(u64, u64); 6] = [(32, 31), (7, 5), (1, 0), (2, 1), (32, 0), (1, 31)];
+use testing::drafts::{Plan, SIZES, Shape};
 
 // A list as far as it has come: both basins, both checksums, and how many steps were accepted.
 #[derive(Clone, Copy)]
@@ -23,7 +20,7 @@ struct Mixed {
     taken: u64,
 }
 
-// A list for every size and shape.
+// A list for every size and shape; the choices go round beside them.
 pub fn rows(rt: &impl Print) -> io::Result<()> {
     let mut chance = Chance::new();
     for k in 0..24usize {

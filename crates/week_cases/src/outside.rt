@@ -13,15 +13,13 @@ use testing::ranges::Edge;
 // content of the reach; content of the last reach, which is unused.
 const PLACES: [usize; 10] = [0, 1, 2, 24, 40, 57, 80, 1252, 1253, 1373];
 
-const EDGES: [Edge; 4] = [Edge::Below, Edge::Least, Edge::Most, Edge::Above];
-
 const LENGTHS: [usize; 4] = [0, 14, 15, 2002];
 
 pub fn rows(rt: &impl Print) -> io::Result<()> {
     let mut chance = Chance::new();
     let mut told = Told::new();
     for place in PLACES {
-        for (k, edge) in EDGES.into_iter().enumerate() {
+        for (k, edge) in Edge::NEAR.into_iter().enumerate() {
             for long in LENGTHS {
                 let mut b = calls::started(Plan::chain(Choice::Ordinary, 2, 1), &mut chance);
                 let mut buffer = list::BUFFER;
