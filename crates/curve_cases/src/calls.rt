@@ -49,55 +49,60 @@ impl Call {
     pub fn print(self, rt: &impl Print, v: [u64; 4]) -> io::Result<()> {
         let answer = self.answer(v);
         let arguments = Row(&v[..self.arity()]);
-        match answer {
-            Numbers::Value(row) => println!(rt; "{self}{arguments}{}", Row(&row)),
-            Numbers::Store(row) => println!(rt; "{self}{arguments}{}", Row(&row)),
-        }
+        println!(rt; "{self}{arguments}{}", Row(answer.as_slice()))
     }
 
     // Every number of the answer.
     pub fn add(self, sum: &mut Checksum, v: [u64; 4]) {
-        match self.answer(v) {
-            Numbers::Value(row) => sum.add_row(&row),
-            Numbers::Store(row) => sum.add_row(&row),
-        }
+        sum.add_row(self.answer(v).as_slice());
     }
 
     fn answer(self, v: [u64; 4]) -> Numbers {
         let [first, second, third, last] = v;
         match self {
-            Call::Root => Numbers::Value(told(capacity::root(first))),
-            Call::RootByTable => Numbers::Value(told(capacity::root_by_table(first))),
-            Call::Power => Numbers::Value(told(capacity::power(first, second))),
-            Call::PowerByTable => Numbers::Value(told(capacity::power_by_table(first, second))),
-            Call::Held => Numbers::Value(told(capacity::held(first, second, third, last))),
-            Call::Ordinate => Numbers::Value(told(capacity::ordinate(first, second, third, last))),
+            Call::Root => Numbers::from(capacity::root(first)),
+            Call::RootByTable => Numbers::from(capacity::root_by_table(first)),
+            Call::Power => Numbers::from(capacity::power(first, second)),
+            Call::PowerByTable => Numbers::from(capacity::power_by_table(first, second)),
+            Call::Held => Numbers::from(capacity::held(first, second, third, last)),
+            Call::Ordinate => Numbers::from(capacity::ordinate(first, second, third, last)),
             Call::Store => {
                 let before = Store {
                     a: first,
                     g: second,
                     content: third,
                 };
-                Numbers::Store(released(before.take(last)))
+                Numbers::from(before.take(last))
             }
         }
     }
 }
 
-// An answer's numbers.
+// An answer's numbers: number, place and value, or number, place, the store after and the outflow.
 #[derive(Clone, Copy)]
-enum Numbers {
+pub enum Numbers {
     Value([u64; 3]),
     Store([u64; 6]),
 }
 
-// Number, place and value.
-pub fn told(given: Answer) -> [u64; 3] {
-    [given.number, given.place, given.value]
+impl Numbers {
+    pub fn as_slice(&self) -> &[u64] {
+        match self {
+            Numbers::Value(row) => row,
+            Numbers::Store(row) => row,
+        }
+    }
 }
 
-// Number, place, the store after and the outflow.
-fn released(given: Released) -> [u64; 6] {
-    let Store { a, g, content } = given.store;
-    [given.number, given.place, a, g, content, given.outflow]
+impl From<Answer> for Numbers {
+    fn from(given: Answer) -> Numbers {
+        Numbers::Value([given.number, given.place, given.value])
+    }
+}
+
+impl From<Released> for Numbers {
+    fn from(given: Released) -> Numbers {
+        let Store { a, g, content } = given.store;
+        Numbers::Store([given.number, given.place, a, g, content, given.outflow])
+    }
 }

@@ -15,17 +15,20 @@ pub fn faults(rt: &impl Print) -> io::Result<()> {
         for at in 0..32 {
             let mut lines = readings::good();
             lines[at] = Line::from(bad);
-            let place = at as u64;
-            let whole = read(lines, 32, 32);
-            let last = read(lines, place + 1, place + 1);
-            let past = read(lines, place, place);
-            if at % 10 == 1 {
-                let rows = (Row(&whole.told), Row(&last.told), Row(&past.told));
-                println!(rt; "fault {f} {at}{}{}{}", rows.0, rows.1, rows.2)?;
+            let shown = at % 10 == 1;
+            if shown {
+                print!(rt; "fault {f} {at}")?;
             }
-            whole.add(&mut sum);
-            last.add(&mut sum);
-            past.add(&mut sum);
+            for count in [32, at as u64 + 1, at as u64] {
+                let given = read(lines, count, count);
+                if shown {
+                    print!(rt; "{}", Row(&given.told))?;
+                }
+                given.add(&mut sum);
+            }
+            if shown {
+                println!(rt; "")?;
+            }
         }
     }
     println!(rt; "faults {sum}")

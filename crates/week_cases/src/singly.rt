@@ -4,20 +4,21 @@ use basin::step::{Report, ZEROS};
 use basin_testing::calls;
 use basin_testing::calls::{Ran, Stepped};
 use basin_testing::weather::BLANK;
+use common::refusal::Refusal;
 use forcing::list::Line;
 
 pub fn week(b: &mut Basin, lines: &[Line]) -> Ran {
     let n = b.n;
     let long = lines.len() as u64;
     let number = judged(b, lines);
-    if number != 5 {
+    if number != Refusal::LineCount.number() {
         return untaken(number);
     }
     if n == 0 {
-        return untaken(9);
+        return untaken(Refusal::BadBasin.number());
     }
     if long % n != 0 || 1000 < long / n {
-        return untaken(5);
+        return untaken(Refusal::LineCount.number());
     }
     steps(b, lines)
 }
