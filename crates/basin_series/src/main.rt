@@ -7,12 +7,12 @@ mod limits;
 mod plan;
 mod series;
 
-use basin::state::Basin;
-use basin::step;
-use forcing::list::{Line, Reading};
+use basin_testing::calls;
+use basin_testing::weather::CASE_A;
 use std::io;
+use testing::chance::Chance;
 use testing::choices::Choice;
-use testing::drafts;
+use testing::drafts::Plan;
 
 fn main(rt: HostRuntime) -> io::Result<()> {
     case_a(&rt)?;
@@ -21,24 +21,18 @@ fn main(rt: HostRuntime) -> io::Result<()> {
 }
 
 fn case_a(rt: &impl Print) -> io::Result<()> {
-    let start = series::started(drafts::chain(Choice::CaseA, 1, 0), 1);
-    let first = printed(rt, 1, start.basin, Reading::Measured(135.0), 0.0)?;
-    let second = printed(rt, 2, first, Reading::Missing, 0.0)?;
-    printed(rt, 3, second, Reading::Measured(0.0), 10.0)?;
+    let mut b = calls::started(Plan::chain(Choice::CaseA, 1, 0), &mut Chance::new());
+    for (i, line) in CASE_A.into_iter().enumerate() {
+        let told = calls::step(&mut b, [line; 32], 1);
+        series::print(rt, i as u64 + 1, &told)?;
+    }
     Ok(())
 }
 
 // Three ordinary sub-basins and two reaches after 24 steps.
 fn limits_after_steps(rt: &impl Print) -> io::Result<()> {
-    let start = series::started(drafts::chain(Choice::Ordinary, 3, 2), 1);
-    let ran = series::run(rt, start, 24)?;
-    limits::print(rt, ran.basin, ran.x)
-}
-
-// A step with one line, printed; hands back the basin after.
-fn printed(rt: &impl Print, i: u64, b: Basin, rain: Reading, pan: f32) -> io::Result<Basin> {
-    let line = Line { rain, pan };
-    let given = step::step(b, [line; 32], 1);
-    series::print(rt, i, given)?;
-    Ok(given.basin)
+    let mut chance = Chance::new();
+    let mut b = calls::started(Plan::chain(Choice::Ordinary, 3, 2), &mut chance);
+    series::run(rt, &mut b, &mut chance, 24)?;
+    limits::print(rt, &b, &mut chance)
 }

@@ -1,31 +1,21 @@
 // The checksum over a basin: N and M, all records and all reaches.
-use basin::reach::Reach;
+use crate::places;
 use basin::state::Basin;
-use subbasin::record::SubBasin;
-use testing::checksum;
+use testing::checksum::Checksum;
 
-pub fn fold_basin(h: u64, b: Basin) -> u64 {
-    let subs = b.subs;
-    let reaches = b.reaches;
-    fold_reaches(fold_subs(checksum::fold_row(h, &[b.n, b.m]), subs), reaches)
-}
-
-fn fold_subs(h: u64, subs: [SubBasin; 32]) -> u64 {
-    let mut h = h;
-    for i in 0..32 {
-        h = checksum::fold_record(h, subs[i]);
+pub fn add_basin(sum: &mut Checksum, b: &Basin) {
+    sum.add_row(&[b.n, b.m]);
+    for s in &b.subs {
+        sum.add_record(s);
     }
-    h
-}
-
-fn fold_reaches(h: u64, reaches: [Reach; 31]) -> u64 {
-    let mut h = h;
-    for j in 0..31 {
-        h = fold_reach(h, reaches[j]);
+    for r in &b.reaches {
+        sum.add_row(&places::numbers_of(r));
     }
-    h
 }
 
-fn fold_reach(h: u64, r: Reach) -> u64 {
-    checksum::fold_row(h, &[r.c0, r.c1, r.next, r.content])
+// Of one basin alone.
+pub fn of_basin(b: &Basin) -> Checksum {
+    let mut sum = Checksum::new();
+    add_basin(&mut sum, b);
+    sum
 }

@@ -1,10 +1,8 @@
-// What the test programs of `basin` share: the load of a file in a buffer, a basin's numbers by place and its checksum, plans of basins by
-// number, drawn lines, and the week call.
+// What the test programs of `basin` share: its calls and their answers as numbers, a basin's numbers by place and its checksum, and drawn
+// lines.
 #![tactic(auto)]
 
+pub mod calls;
 pub mod checksum;
-pub mod files;
 pub mod places;
-pub mod plans;
 pub mod weather;
-pub mod weeks;

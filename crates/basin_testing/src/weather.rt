@@ -1,74 +1,79 @@
-// A line and the lines of a step, drawn, and bad ones.
+// Lines, drawn, and bad ones.
 use forcing::list::{Line, Reading};
-use testing::chance::next;
-use testing::climate;
+use testing::chance::Chance;
 use testing::climate::Climate;
 
-// In the weather of step i's spell. One reading of eight is estimated.
+// In the weather of step i's spell, by two draws. One reading of eight is estimated.
 pub fn line(i: u64, x: u64, y: u64) -> Line {
-    let weather = climate::weather(Climate::Spells, i, x, y);
+    let weather = Climate::Spells.weather(i, x, y);
     let depth = millimetres(weather.rain);
-    let reading = match y % 8 {
+    let rain = match y % 8 {
         0 => Reading::Estimated(depth),
         _ => Reading::Measured(depth),
     };
     Line {
-        rain: reading,
+        rain,
         pan: millimetres(weather.pan),
     }
 }
 
 // The number nearest to a depth in µm, over 1,000.
 fn millimetres(depth: u64) -> f32 {
-    std::num::nearest_u32_to_f32((depth % 4294967296) as u32) / 1000.0
+    std::num::nearest_u64_to_f32(depth) / 1000.0
 }
 
-// 32 lines and the generator.
+// Lines of step i.
+pub fn drawn<const N: usize>(i: u64, chance: &mut Chance) -> [Line; N] {
+    let mut lines = [BLANK; N];
+    for here in &mut lines {
+        let [x, y] = chance.draws::<2>();
+        *here = line(i, x, y);
+    }
+    lines
+}
+
+// What a place holds where no line is.
+pub const BLANK: Line = Line {
+    rain: Reading::Missing,
+    pan: 0.0,
+};
+
+// The three steps of case A, one line each.
+pub const CASE_A: [Line; 3] = [
+    Line {
+        rain: Reading::Measured(135.0),
+        pan: 0.0,
+    },
+    BLANK,
+    Line {
+        rain: Reading::Measured(0.0),
+        pan: 10.0,
+    },
+];
+
+// Another rain or another pan than may be.
 #[derive(Clone, Copy)]
-pub struct Sky {
-    pub lines: [Line; 32],
-    pub x: u64,
+pub enum Fault {
+    Rain(Reading),
+    Pan(f32),
 }
 
-// The lines of step i.
-pub fn drawn(i: u64, x: u64) -> Sky {
-    let mut s = Sky {
-        lines: [line(i, 0, 0); 32],
-        x,
-    };
-    for k in 0..32 {
-        s = turn(s, i, k);
-    }
-    s
-}
+pub const FAULTS: [Fault; 9] = [
+    Fault::Rain(Reading::Missing),
+    Fault::Rain(Reading::Measured(f32::NAN)),
+    Fault::Rain(Reading::Estimated(f32::INFINITY)),
+    Fault::Rain(Reading::Measured(-0.5)),
+    Fault::Rain(Reading::Estimated(1000.0625)),
+    Fault::Pan(f32::NAN),
+    Fault::Pan(f32::NEG_INFINITY),
+    Fault::Pan(-0.25),
+    Fault::Pan(100.0625),
+];
 
-fn turn(s: Sky, i: u64, k: usize) -> Sky {
-    let mut lines = s.lines;
-    let x1 = next(s.x);
-    let x2 = next(x1);
-    if k < 32 {
-        lines[k] = line(i, x1, x2);
-    }
-    Sky { lines, x: x2 }
-}
-
-// The line with one of nine faults.
-pub fn bad(line: Line, fault: u64) -> Line {
-    let rain = line.rain;
-    let pan = line.pan;
+// The line with the fault.
+pub fn bad(line: Line, fault: Fault) -> Line {
     match fault {
-        0 => with(Reading::Missing, pan),
-        1 => with(Reading::Measured(0.0 / 0.0), pan),
-        2 => with(Reading::Estimated(1.0 / 0.0), pan),
-        3 => with(Reading::Measured(-0.5), pan),
-        4 => with(Reading::Estimated(1000.0625), pan),
-        5 => with(rain, 0.0 / 0.0),
-        6 => with(rain, -1.0 / 0.0),
-        7 => with(rain, -0.25),
-        _ => with(rain, 100.0625),
+        Fault::Rain(rain) => Line { rain, ..line },
+        Fault::Pan(pan) => Line { pan, ..line },
     }
-}
-
-fn with(rain: Reading, pan: f32) -> Line {
-    Line { rain, pan }
 }

@@ -1,9 +1,12 @@
 // The public calls of `curve`, each on a row of four numbers: a root takes the first, a Power the first two, the others all.
+ghost use Rattle.std.specs.Prelude.{◌≤◌};
+
 use curve::capacity;
 use curve::capacity::Answer;
-use curve::store::Store;
-use std::io;
-use testing::{checksum, lines};
+use curve::store::{Released, Store};
+use std::{fmt, io};
+use testing::checksum::Checksum;
+use testing::lines::Row;
 
 #[derive(Clone, Copy)]
 pub enum Call {
@@ -16,90 +19,90 @@ pub enum Call {
     Store,
 }
 
-// A call's line: its name, its arguments, then every number of the answer.
-pub fn print(rt: &impl Print, call: Call, v: [u64; 4]) -> io::Result<()> {
-    name(rt, call)?;
-    arguments(rt, call, v)?;
-    match call {
-        Call::Store => {
-            let row = released(v);
-            lines::row(rt, &row)?;
-        }
-        _ => {
-            let row = answered(call, v);
-            lines::row(rt, &row)?;
-        }
-    }
-    lines::end(rt)
-}
-
-// Every number of the answer.
-pub fn fold(h: u64, call: Call, v: [u64; 4]) -> u64 {
-    match call {
-        Call::Store => {
-            let row = released(v);
-            checksum::fold_row(h, &row)
-        }
-        _ => {
-            let row = answered(call, v);
-            checksum::fold_row(h, &row)
-        }
+impl fmt::Display for Call {
+    fn fmt<W: fmt::Write>(&self, f: &mut fmt::Formatter<W>) -> fmt::Result {
+        f.write_str(match self {
+            Call::Root => "root",
+            Call::RootByTable => "root_by_table",
+            Call::Power => "power",
+            Call::PowerByTable => "power_by_table",
+            Call::Held => "held",
+            Call::Ordinate => "ordinate",
+            Call::Store => "store",
+        })
     }
 }
 
-pub fn name(rt: &impl Print, call: Call) -> io::Result<()> {
-    match call {
-        Call::Root => lines::word(rt, b"root"),
-        Call::RootByTable => lines::word(rt, b"root_by_table"),
-        Call::Power => lines::word(rt, b"power"),
-        Call::PowerByTable => lines::word(rt, b"power_by_table"),
-        Call::Held => lines::word(rt, b"held"),
-        Call::Ordinate => lines::word(rt, b"ordinate"),
-        Call::Store => lines::word(rt, b"store"),
-    }
-}
-
-fn arguments(rt: &impl Print, call: Call, v: [u64; 4]) -> io::Result<()> {
-    match call {
-        Call::Root | Call::RootByTable => lines::number(rt, v[0]),
-        Call::Power | Call::PowerByTable => {
-            lines::number(rt, v[0])?;
-            lines::number(rt, v[1])
+impl Call {
+    // How many arguments it takes.
+    pub fn arity(self) -> usize
+        ensures { result ≤ 4 }
+    {
+        match self {
+            Call::Root | Call::RootByTable => 1,
+            Call::Power | Call::PowerByTable => 2,
+            Call::Held | Call::Ordinate | Call::Store => 4,
         }
-        _ => lines::row(rt, &v),
+    }
+
+    // A call's line: its name, its arguments, then every number of the answer.
+    pub fn print(self, rt: &impl Print, v: [u64; 4]) -> io::Result<()> {
+        let answer = self.answer(v);
+        let arguments = Row(&v[..self.arity()]);
+        println!(rt; "{self}{arguments}{}", Row(answer.as_slice()))
+    }
+
+    // Every number of the answer.
+    pub fn add(self, sum: &mut Checksum, v: [u64; 4]) {
+        sum.add_row(self.answer(v).as_slice());
+    }
+
+    fn answer(self, v: [u64; 4]) -> Numbers {
+        let [first, second, third, last] = v;
+        match self {
+            Call::Root => Numbers::from(capacity::root(first)),
+            Call::RootByTable => Numbers::from(capacity::root_by_table(first)),
+            Call::Power => Numbers::from(capacity::power(first, second)),
+            Call::PowerByTable => Numbers::from(capacity::power_by_table(first, second)),
+            Call::Held => Numbers::from(capacity::held(first, second, third, last)),
+            Call::Ordinate => Numbers::from(capacity::ordinate(first, second, third, last)),
+            Call::Store => {
+                let before = Store {
+                    a: first,
+                    g: second,
+                    content: third,
+                };
+                Numbers::from(before.take(last))
+            }
+        }
     }
 }
 
-fn answered(call: Call, v: [u64; 4]) -> [u64; 3] {
-    let given = answer(call, v);
-    [given.number, given.place, given.value]
+// An answer's numbers: number, place and value, or number, place, the store after and the outflow.
+#[derive(Clone, Copy)]
+pub enum Numbers {
+    Value([u64; 3]),
+    Store([u64; 6]),
 }
 
-fn answer(call: Call, v: [u64; 4]) -> Answer {
-    match call {
-        Call::Root => capacity::root(v[0]),
-        Call::RootByTable => capacity::root_by_table(v[0]),
-        Call::Power => capacity::power(v[0], v[1]),
-        Call::PowerByTable => capacity::power_by_table(v[0], v[1]),
-        Call::Held => capacity::held(v[0], v[1], v[2], v[3]),
-        _ => capacity::ordinate(v[0], v[1], v[2], v[3]),
+impl Numbers {
+    pub fn as_slice(&self) -> &[u64] {
+        match self {
+            Numbers::Value(row) => row,
+            Numbers::Store(row) => row,
+        }
     }
 }
 
-fn released(v: [u64; 4]) -> [u64; 6] {
-    let before = Store {
-        a: v[0],
-        g: v[1],
-        content: v[2],
-    };
-    let given = before.take(v[3]);
-    let after = given.store;
-    [
-        given.number,
-        given.place,
-        after.a,
-        after.g,
-        after.content,
-        given.outflow,
-    ]
+impl From<Answer> for Numbers {
+    fn from(given: Answer) -> Numbers {
+        Numbers::Value([given.number, given.place, given.value])
+    }
+}
+
+impl From<Released> for Numbers {
+    fn from(given: Released) -> Numbers {
+        let Store { a, g, content } = given.store;
+        Numbers::Store([given.number, given.place, a, g, content, given.outflow])
+    }
 }

@@ -1,85 +1,50 @@
 // Root, Held and Ordinate with tables of roots that mislead: they answer as they do by the printed one. For each table a checksum of every
 // root and one of a random series.
-use crate::calls::Call;
+use crate::calls::{Call, Numbers};
 use crate::random;
 use curve::capacity;
-use curve::capacity::Roots;
+use curve::capacity::{Answer, Roots};
 use std::io;
-use testing::chance::Drawn;
-use testing::{checksum, lines};
+use testing::chance::Chance;
+use testing::checksum::Checksum;
 
 pub fn series(rt: &impl Print) -> io::Result<()> {
     let roots = capacity::printed_roots();
-    line(rt, b"printed", &roots)?;
-    let wrong = off_by_one(roots);
-    line(rt, b"off by one", &wrong)?;
-    let zeros = [0u32; 1024];
-    line(rt, b"zeros", &zeros)?;
-    let ones = [1u32; 1024];
-    line(rt, b"ones", &ones)?;
-    let most = [8191u32; 1024];
-    line(rt, b"8191", &most)?;
-    let far = [4294967295u32; 1024];
-    line(rt, b"4294967295", &far)
+    line(rt, "printed", &roots)?;
+    // Each entry is one more or one less.
+    line(rt, "off by one", &roots.map(|root| root ^ 1))?;
+    line(rt, "zeros", &[0; 1024])?;
+    line(rt, "ones", &[1; 1024])?;
+    line(rt, "8191", &[8191; 1024])?;
+    line(rt, "4294967295", &[u32::MAX; 1024])
 }
 
-fn line(rt: &impl Print, name: &[u8], roots: &Roots) -> io::Result<()> {
-    lines::word(rt, b"lent ")?;
-    lines::word(rt, name)?;
-    lines::number(rt, every_root(roots))?;
-    lines::number(rt, folded(roots))?;
-    lines::end(rt)
+fn line(rt: &impl Print, name: &str, roots: &Roots) -> io::Result<()> {
+    println!(rt; "lent {name} {} {}", every_root(roots), drawn(roots))
 }
 
-// Each entry is one more or one less.
-fn off_by_one(roots: Roots) -> Roots {
-    let mut wrong = roots;
-    for k in 0usize..1024 {
-        let e = wrong[k];
-        wrong[k] = e ^ 1;
-    }
-    wrong
-}
-
-fn every_root(roots: &Roots) -> u64 {
-    let mut h = 0;
+fn every_root(roots: &Roots) -> Checksum {
+    let mut sum = Checksum::new();
     for t in 0..65538 {
-        h = root(roots, h, t);
+        add(&mut sum, capacity::root_with(roots, t));
     }
-    h
-}
-
-fn root(roots: &Roots, h: u64, t: u64) -> u64 {
-    let given = capacity::root_with(roots, t);
-    let row = [given.number, given.place, given.value];
-    checksum::fold_row(h, &row)
-}
-
-fn folded(roots: &Roots) -> u64 {
-    let mut s = Drawn { x: 1, h: 0 };
-    for _ in 0u64..10000 {
-        s = turn(roots, s);
-    }
-    s.h
+    sum
 }
 
 // A Held and an Ordinate of the same draws.
-fn turn(roots: &Roots, s: Drawn) -> Drawn {
-    let draws = random::eight(s.x);
-    let v = random::arguments(Call::Held, draws);
-    let held = capacity::held_with(roots, v[0], v[1], v[2], v[3]);
-    let w = random::arguments(Call::Ordinate, draws);
-    let ordinate = capacity::ordinate_with(roots, w[0], w[1], w[2], w[3]);
-    let row = [
-        held.number,
-        held.place,
-        held.value,
-        ordinate.number,
-        ordinate.place,
-        ordinate.value,
-    ];
-    Drawn {
-        x: draws[5],
-        h: checksum::fold_row(s.h, &row),
+fn drawn(roots: &Roots) -> Checksum {
+    let mut chance = Chance::new();
+    let mut sum = Checksum::new();
+    for _ in 0..10000 {
+        let mut same = chance;
+        let [c, m, e, a] = random::arguments(Call::Held, &mut same);
+        add(&mut sum, capacity::held_with(roots, c, m, e, a));
+        let [c, m, e, w] = random::arguments(Call::Ordinate, &mut chance);
+        add(&mut sum, capacity::ordinate_with(roots, c, m, e, w));
     }
+    sum
+}
+
+fn add(sum: &mut Checksum, given: Answer) {
+    sum.add_row(Numbers::from(given).as_slice());
 }

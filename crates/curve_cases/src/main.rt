@@ -10,26 +10,15 @@ mod limits;
 mod ordinates;
 mod random;
 
-use calls::Call;
 use std::io;
 
 fn main(rt: HostRuntime) -> io::Result<()> {
     examples::print(&rt)?;
     every::shares(&rt)?;
     every::exponents(&rt)?;
-    limits::cases(&rt, Call::Root, 4)?;
-    limits::cases(&rt, Call::RootByTable, 4)?;
-    limits::cases(&rt, Call::Power, 16)?;
-    limits::cases(&rt, Call::PowerByTable, 16)?;
-    limits::cases(&rt, Call::Held, 192)?;
-    limits::cases(&rt, Call::Ordinate, 192)?;
-    limits::cases(&rt, Call::Store, 256)?;
+    limits::print(&rt)?;
     limits::far(&rt)?;
     ordinates::print(&rt)?;
-    random::series(&rt, Call::Root)?;
-    random::series(&rt, Call::Power)?;
-    random::series(&rt, Call::Held)?;
-    random::series(&rt, Call::Ordinate)?;
-    random::series(&rt, Call::Store)?;
+    random::print(&rt)?;
     lent::series(&rt)
 }

@@ -5,9 +5,8 @@
 ghost use Rattle.std.specs.Prelude.{◌≤◌};
 
 use curve::capacity;
-use curve::capacity::Roots;
-use std::{env, io};
-use testing::lines;
+use curve::capacity::{Answer, Roots};
+use std::{env, fmt, io};
 
 // Idle, a root by each way, and searches: of many curves, and of the one point where most trials are needed.
 #[derive(Clone, Copy)]
@@ -20,49 +19,52 @@ enum Way {
     Worst,
 }
 
+const TESTED: [Way; 5] = [Way::Newton, Way::Lent, Way::Made, Way::Search, Way::Worst];
+
 const ROUND: u64 = 65536;
 
 fn main(rt: HostRuntime) -> io::Result<()> {
     let roots = capacity::printed_roots();
     if let Some(word) = env::args(&rt)?.nth(1) {
-        return print(&rt, named(word.as_str()), &roots, 100 * ROUND);
+        return print(&rt, Way::from(word.as_str()), &roots, 100 * ROUND);
     }
-    print(&rt, Way::Newton, &roots, ROUND)?;
-    print(&rt, Way::Lent, &roots, ROUND)?;
-    print(&rt, Way::Made, &roots, ROUND)?;
-    print(&rt, Way::Search, &roots, ROUND)?;
-    print(&rt, Way::Worst, &roots, ROUND)
+    for way in TESTED {
+        print(&rt, way, &roots, ROUND)?;
+    }
+    Ok(())
 }
 
 // By its first letter.
-fn named(word: &str) -> Way {
-    match word.as_bytes() {
-        [b'n', ..] => Way::Newton,
-        [b'l', ..] => Way::Lent,
-        [b'm', ..] => Way::Made,
-        [b's', ..] => Way::Search,
-        [b'w', ..] => Way::Worst,
-        _ => Way::Idle,
+impl From<&str> for Way {
+    fn from(word: &str) -> Way {
+        match word.as_bytes() {
+            [b'n', ..] => Way::Newton,
+            [b'l', ..] => Way::Lent,
+            [b'm', ..] => Way::Made,
+            [b's', ..] => Way::Search,
+            [b'w', ..] => Way::Worst,
+            _ => Way::Idle,
+        }
+    }
+}
+
+impl fmt::Display for Way {
+    fn fmt<W: fmt::Write>(&self, f: &mut fmt::Formatter<W>) -> fmt::Result {
+        f.write_str(match self {
+            Way::Idle => "idle",
+            Way::Newton => "newton",
+            Way::Lent => "lent",
+            Way::Made => "made",
+            Way::Search => "search",
+            Way::Worst => "worst",
+        })
     }
 }
 
 fn print(rt: &impl Print, way: Way, roots: &Roots, count: u64) -> io::Result<()>
     requires { count ≤ 6553600 }
 {
-    name(rt, way)?;
-    lines::number(rt, chain(way, roots, count))?;
-    lines::end(rt)
-}
-
-fn name(rt: &impl Print, way: Way) -> io::Result<()> {
-    match way {
-        Way::Idle => lines::word(rt, b"idle"),
-        Way::Newton => lines::word(rt, b"newton"),
-        Way::Lent => lines::word(rt, b"lent"),
-        Way::Made => lines::word(rt, b"made"),
-        Way::Search => lines::word(rt, b"search"),
-        Way::Worst => lines::word(rt, b"worst"),
-    }
+    println!(rt; "{way} {}", chain(way, roots, count))
 }
 
 // The last answer of a chain.
@@ -76,6 +78,7 @@ fn chain(way: Way, roots: &Roots, count: u64) -> u64
     r
 }
 
+// One chain for all ways, so that idle takes what the others take beside their calls.
 fn turn(way: Way, roots: &Roots, i: u64, r: u64) -> u64
     requires { i ≤ 6553600 }
 {
@@ -104,6 +107,6 @@ fn worst(roots: &Roots, r: u64) -> u64 {
     value(capacity::ordinate_with(roots, 65536, 2000000, 43, 65535 - r / 2000001 % 2))
 }
 
-fn value(given: capacity::Answer) -> u64 {
+fn value(given: Answer) -> u64 {
     given.value
 }

@@ -1,150 +1,138 @@
 // Files chosen by number: lengths, N and M, every word at the edges of its range, and reaches.
-use crate::series;
-use crate::series::{State, loaded};
+use crate::loads::{edged, good, load};
 use std::io;
+use testing::chance::Chance;
+use testing::checksum::Checksum;
 use testing::choices::Choice;
-use testing::files::File;
-use testing::{files, lines, ranges};
+use testing::files;
+use testing::files::{BYTES, File};
+use testing::lines::Row;
+use testing::ranges::Edge;
+
+// Good files of every N and M, and each a byte and a word too short and too long.
+pub fn every_size(rt: &impl Print, choice: Choice) -> io::Result<()> {
+    let mut chance = Chance::new();
+    let mut sum = Checksum::new();
+    for n in 1..33 {
+        for m in 0..32 {
+            let file = good(choice, n, m, &mut chance);
+            let own = 4 * files::words(n, m);
+            for size in [own, own - 4, own - 1, own + 1, own + 4] {
+                load(&mut sum, &File { size, ..file });
+            }
+        }
+        println!(rt; "good {n} {sum}")?;
+    }
+    println!(rt; "{choice} 1 0 {sum}")
+}
+
+// The file cut to every length up to five bytes past its own, and in the buffer. Lengths up to 9, and those near the file's own, are
+// printed.
+pub fn sizes(rt: &impl Print, n: u64, m: u64) -> io::Result<()> {
+    let file = good(Choice::Any, n, m, &mut Chance::new());
+    let own = 4 * files::words(n, m);
+    let mut sum = Checksum::new();
+    for size in 0..BYTES.min(own + 5) + 1 {
+        let told = load(&mut sum, &File { size, ..file });
+        if size < 10 || own <= size + 5 {
+            println!(rt; "size {size}{}", Row(&told))?;
+        }
+    }
+    println!(rt; "sizes {n} {m} {sum}")
+}
 
 // N and M: both ends of their ranges and one beyond, and the same in the other bytes of the word.
 const COUNTS: [u64; 12] = [
     0, 1, 2, 31, 32, 33, 256, 8192, 65536, 16777216, 536870912, 4294967295,
 ];
 
+// N with M, at the length that they ask for, or at the longest, and at 8 bytes.
+pub fn counts(rt: &impl Print) -> io::Result<()> {
+    let base = good(Choice::Any, 32, 31, &mut Chance::new());
+    let mut sum = Checksum::new();
+    for m in COUNTS {
+        for n in COUNTS {
+            let mut file = base;
+            file.put(0, n);
+            file.put(1, m);
+            let whole = load(
+                &mut sum,
+                &File {
+                    size: size_of(n, m),
+                    ..file
+                },
+            );
+            let short = load(&mut sum, &File { size: 8, ..file });
+            println!(rt; "counts {n} {m}{}{}", Row(&whole), Row(&short))?;
+        }
+    }
+    println!(rt; "counts 32 31 {sum}")
+}
+
+fn size_of(n: u64, m: u64) -> usize {
+    if n <= 32 && m <= 31 {
+        4 * files::words(n, m)
+    } else {
+        4 * files::words(32, 31)
+    }
+}
+
+// Every word below, at the ends of and above its range, printed where asked for.
+pub fn words(rt: &impl Print, choice: Choice, n: u64, m: u64, shown: bool) -> io::Result<()> {
+    let file = good(choice, n, m, &mut Chance::new());
+    let mut sum = Checksum::new();
+    for at in 0..files::words(n, m) {
+        if shown {
+            print!(rt; "word {at}")?;
+        }
+        for edge in Edge::ALL {
+            let told = load(&mut sum, &edged(&file, at, edge));
+            if shown {
+                print!(rt; "{}", Row(&told))?;
+            }
+        }
+        if shown {
+            println!(rt; "")?;
+        }
+    }
+    println!(rt; "words {n} {m} {sum}")
+}
+
 // c0 and c1: both ends of their ranges and one beyond, and what would wrap.
 const SHARES: [u64; 10] = [
     0, 1, 2, 32768, 65535, 65536, 65537, 2147483648, 4294901760, 4294967295,
 ];
 
-pub fn good(rt: &impl Print, choice: Choice, s: State, i: u64) -> io::Result<State> {
-    let n = 1 + i / 32 % 32;
-    let m = i % 32;
-    let draft = series::good(choice, n, m, s.x);
-    let file = draft.file;
-    let size = 4 * files::words(n, m);
-    let s0 = State {
-        file,
-        x: draft.x,
-        h: s.h,
-    };
-    let s1 = loaded(rt, s0, file, false)?;
-    let s2 = loaded(rt, s1, files::sized(file, size - 4), false)?;
-    let s3 = loaded(rt, s2, files::sized(file, size - 1), false)?;
-    let s4 = loaded(rt, s3, files::sized(file, size + 1), false)?;
-    let s5 = loaded(rt, s4, files::sized(file, size + 4), false)?;
-    if m == 31 {
-        lines::line(rt, b"good", &[n, s5.h])?;
-    }
-    Ok(s5)
-}
-
-// Lengths up to 9, and those near the file's own, are printed.
-pub fn size(rt: &impl Print, s: State, i: u64) -> io::Result<State> {
-    let file = s.file;
-    let own = file.size as u64 % 4096;
-    let size = i % 4096;
-    let near = if size < 10 { true } else { own < size + 6 };
-    if near {
-        lines::word(rt, b"size")?;
-        lines::number(rt, size)?;
-    }
-    let after = loaded(rt, s, files::sized(file, size as usize), near)?;
-    if near {
-        lines::end(rt)?;
-    }
-    Ok(after)
-}
-
-// At the length that N and M ask for, or at the longest, and at 8 bytes.
-pub fn counts(rt: &impl Print, s: State, i: u64) -> io::Result<State> {
-    let n = COUNTS[(i % 12) as usize];
-    let m = COUNTS[(i / 12 % 12) as usize];
-    let base = s.file;
-    let file = files::with(files::with(base, 0, n), 1, m);
-    lines::word(rt, b"counts")?;
-    lines::number(rt, n)?;
-    lines::number(rt, m)?;
-    let s1 = loaded(rt, s, files::sized(file, size_of(n, m)), true)?;
-    let s2 = loaded(rt, s1, files::sized(file, 8), true)?;
-    lines::end(rt)?;
-    Ok(s2)
-}
-
-fn size_of(n: u64, m: u64) -> usize {
-    if 32 < n {
-        return 4 * files::words(32, 31);
-    }
-    if 31 < m {
-        return 4 * files::words(32, 31);
-    }
-    4 * files::words(n, m)
-}
-
-pub fn word(rt: &impl Print, s: State, i: u64, shown: bool) -> io::Result<State> {
-    let at = i as usize;
-    if shown {
-        lines::word(rt, b"word")?;
-        lines::number(rt, i)?;
-    }
-    let s1 = edge(rt, s, at, 0, shown)?;
-    let s2 = edge(rt, s1, at, 1, shown)?;
-    let s3 = edge(rt, s2, at, 2, shown)?;
-    let s4 = edge(rt, s3, at, 3, shown)?;
-    let s5 = edge(rt, s4, at, 4, shown)?;
-    if shown {
-        lines::end(rt)?;
-    }
-    Ok(s5)
-}
-
-fn edge(rt: &impl Print, s: State, at: usize, which: u64, shown: bool) -> io::Result<State> {
-    let file = s.file;
-    loaded(rt, s, edged(file, at, which), shown)
-}
-
-// The file with a word at an edge of its range.
-pub fn edged(file: File, at: usize, which: u64) -> File {
-    let bytes = file.bytes;
-    let spot = files::spot_of(files::word(&bytes, 0), at);
-    let range = files::range_of(&bytes, at, spot, files::word(&bytes, 1));
-    files::with(file, at, ranges::edge(range, which))
-}
-
-pub fn shares(rt: &impl Print, s: State, i: u64) -> io::Result<State> {
-    let c0 = SHARES[(i % 10) as usize];
-    let c1 = SHARES[(i / 10 % 10) as usize];
-    let file = s.file;
+// c0 with c1, in the second reach of two sub-basins and three reaches.
+pub fn shares(rt: &impl Print) -> io::Result<()> {
+    let base = good(Choice::Any, 2, 3, &mut Chance::new());
     let at = files::words(2, 1);
-    lines::word(rt, b"shares")?;
-    lines::number(rt, c0)?;
-    lines::number(rt, c1)?;
-    let after = loaded(
-        rt,
-        s,
-        files::with(files::with(file, at, c0), at + 1, c1),
-        true,
-    )?;
-    lines::end(rt)?;
-    Ok(after)
+    let mut sum = Checksum::new();
+    for c1 in SHARES {
+        for c0 in SHARES {
+            let mut file = base;
+            file.put(at, c0);
+            file.put(at + 1, c1);
+            let told = load(&mut sum, &file);
+            println!(rt; "shares {c0} {c1}{}", Row(&told))?;
+        }
+    }
+    println!(rt; "shares 2 3 {sum}")
 }
 
-// A line a reach: its own number, then the answers for next 0 to 32.
-pub fn nexts(rt: &impl Print, s: State, i: u64) -> io::Result<State> {
-    let reach = i / 33 % 31;
-    let v = i % 33;
-    let file = s.file;
-    if v == 0 {
-        lines::word(rt, b"next")?;
-        lines::number(rt, reach + 1)?;
+// Every reach with every next, in one sub-basin and 31 reaches. A line a reach: its own number, then the answers for next 0 to 32.
+pub fn nexts(rt: &impl Print) -> io::Result<()> {
+    let base = good(Choice::Any, 1, 31, &mut Chance::new());
+    let mut sum = Checksum::new();
+    for own in 1..32 {
+        print!(rt; "next {own}")?;
+        for next in 0..33 {
+            let mut file = base;
+            file.put(files::words(1, own) - 1, next);
+            let told = load(&mut sum, &file);
+            print!(rt; "{}", Row(&told))?;
+        }
+        println!(rt; "")?;
     }
-    let after = loaded(
-        rt,
-        s,
-        files::with(file, files::words(1, reach) + 2, v),
-        true,
-    )?;
-    if v == 32 {
-        lines::end(rt)?;
-    }
-    Ok(after)
+    println!(rt; "nexts 1 31 {sum}")
 }

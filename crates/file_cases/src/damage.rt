@@ -1,92 +1,62 @@
 // Good files, damaged at random.
-use crate::series::{State, loaded};
-use crate::{cases, series};
+use crate::loads::{edged, good, load};
 use std::io;
-use testing::chance::next;
+use testing::chance::Chance;
+use testing::checksum::Checksum;
 use testing::choices::Choice;
-use testing::files::File;
-use testing::{files, lines};
+use testing::files::{BYTES, File};
+use testing::lines::Row;
+use testing::ranges::Edge;
 
 // A good file with N and M drawn too.
-fn drawn(s: State) -> State {
-    let x1 = next(s.x);
-    let x2 = next(x1);
-    let draft = series::good(Choice::Any, 1 + x1 % 32, x2 % 32, x2);
-    let file = draft.file;
-    State {
-        file,
-        x: draft.x,
-        h: s.h,
-    }
+fn drawn(chance: &mut Chance) -> File {
+    let [n, m] = chance.draws::<2>();
+    good(Choice::Any, 1 + n % 32, m % 32, chance)
 }
 
-pub fn several(rt: &impl Print, s: State, i: u64) -> io::Result<State> {
-    let shown = i % 50 == 0;
-    if shown {
-        lines::word(rt, b"several")?;
+// Three words outside their ranges, drawn.
+pub fn several(rt: &impl Print) -> io::Result<()> {
+    let mut chance = Chance::new();
+    let mut sum = Checksum::new();
+    for i in 0..2000 {
+        let mut file = drawn(&mut chance);
+        let mut places = [0; 3];
+        for place in &mut places {
+            *place = outside(&mut file, &mut chance);
+        }
+        let told = load(&mut sum, &file);
+        if i % 50 == 0 {
+            println!(rt; "several{}{}", Row(&places), Row(&told))?;
+        }
     }
-    let s1 = outside(
-        rt,
-        outside(rt, outside(rt, drawn(s), shown)?, shown)?,
-        shown,
-    )?;
-    let file = s1.file;
-    let after = loaded(rt, s1, file, shown)?;
-    if shown {
-        lines::end(rt)?;
-    }
-    Ok(after)
+    println!(rt; "several 1 0 {sum}")
 }
 
-// A word after the first two below or above its range, or the greatest.
-fn outside(rt: &impl Print, s: State, shown: bool) -> io::Result<State> {
-    let x1 = next(s.x);
-    let x2 = next(x1);
-    let file = s.file;
-    let words = file.size / 4;
-    if words < 3 {
-        return Ok(s);
-    }
-    let at = 2 + x1 as usize % (words - 2) % files::BYTES;
-    let which = match x2 % 3 {
-        0 => 0,
-        1 => 3,
-        _ => 4,
-    };
-    if shown {
-        lines::number(rt, at as u64)?;
-    }
-    Ok(State {
-        file: cases::edged(file, at, which),
-        x: x2,
-        h: s.h,
-    })
+// Puts a word after the first two below or above its range, or the greatest; hands back its place.
+fn outside(file: &mut File, chance: &mut Chance) -> u64 {
+    let [x, y] = chance.draws::<2>();
+    let more = file.words().saturating_sub(2).max(1);
+    let at = 2 + x as usize % more % BYTES;
+    *file = edged(file, at, Edge::OUTSIDE[(y % 3) as usize]);
+    at as u64
 }
 
-pub fn byte(rt: &impl Print, s: State, i: u64) -> io::Result<State> {
-    let shown = i % 200 == 0;
-    let s1 = drawn(s);
-    let x1 = next(s1.x);
-    let x2 = next(x1);
-    let file = s1.file;
-    let size = file.size;
-    let mut bytes = file.bytes;
-    let at = x1 as usize % (size % 4096 + 1) % files::BYTES;
-    bytes[at] = (x2 % 256) as u8;
-    if shown {
-        lines::word(rt, b"byte")?;
-        lines::number(rt, at as u64)?;
-        lines::number(rt, x2 % 256)?;
+// One byte changed, or the one past the file, drawn.
+pub fn bytes(rt: &impl Print) -> io::Result<()> {
+    let mut chance = Chance::new();
+    let mut sum = Checksum::new();
+    for i in 0..5000 {
+        let mut file = drawn(&mut chance);
+        let [x, y] = chance.draws::<2>();
+        let at = x as usize % file.size.saturating_add(1);
+        let v = (y % 256) as u8;
+        if let Some(byte) = file.bytes.get_mut(at) {
+            *byte = v;
+        }
+        let told = load(&mut sum, &file);
+        if i % 200 == 0 {
+            println!(rt; "byte {at} {v}{}", Row(&told))?;
+        }
     }
-    let damaged = File { bytes, size };
-    let s2 = State {
-        file: damaged,
-        x: x2,
-        h: s1.h,
-    };
-    let after = loaded(rt, s2, damaged, shown)?;
-    if shown {
-        lines::end(rt)?;
-    }
-    Ok(after)
+    println!(rt; "bytes 1 0 {sum}")
 }

@@ -1,13 +1,14 @@
 // The depth call on chosen numbers, printed, and on long series of them, folded into a checksum for each.
 use crate::numbers;
 use forcing::depth;
-use forcing::depth::Gauge;
-use std::io;
-use testing::chance::{Drawn, next};
-use testing::{checksum, lines};
+use forcing::depth::{Depth, Gauge};
+use std::{fmt, io};
+use testing::chance::Chance;
+use testing::checksum::Checksum;
+use testing::lines::Row;
 
 // Zeros, the least normals, infinities, a NaN, both limits, powers of 2, and the examples of document 01 and of a half.
-const CENTRES: [u64; 20] = [
+const CENTRES: [u32; 20] = [
     0x0000_0000,
     0x8000_0000,
     0x0080_0000,
@@ -49,69 +50,65 @@ pub enum Part {
     Near,
 }
 
+impl fmt::Display for Part {
+    fn fmt<W: fmt::Write>(&self, f: &mut fmt::Formatter<W>) -> fmt::Result {
+        f.write_str(match self {
+            Part::Centres => "centres",
+            Part::Halves => "halves",
+            Part::EveryHalf => "every half",
+            Part::EveryExponent => "every exponent",
+            Part::Any => "any",
+            Part::Near => "near",
+        })
+    }
+}
+
+impl Part {
+    // Number i, by two draws.
+    fn pattern(self, i: u64, x: u64, y: u64) -> u32 {
+        match self {
+            Part::Centres => numbers::beside(CENTRES[(i / 3 % 20) as usize], i),
+            Part::Halves => numbers::around_half(HALVES[(i / 3 % 20) as usize], i),
+            Part::EveryHalf => numbers::around_half(i / 3, i),
+            Part::EveryExponent => numbers::each_exponent(i),
+            Part::Any => numbers::any(x, y),
+            Part::Near => numbers::near(x, y),
+        }
+    }
+
+    fn shows(self, i: u64) -> bool {
+        match self {
+            Part::Centres | Part::Halves => true,
+            Part::EveryHalf | Part::EveryExponent => false,
+            Part::Any | Part::Near => i % 5000 == 0,
+        }
+    }
+}
+
 pub fn series(rt: &impl Print, part: Part, said: Gauge, count: u64) -> io::Result<()> {
-    let s = calls(rt, part, said, count)?;
-    gauge(rt, said)?;
-    name(rt, part)?;
-    lines::number(rt, s.h)?;
-    lines::end(rt)
-}
-
-fn gauge(rt: &impl Print, said: Gauge) -> io::Result<()> {
-    match said {
-        Gauge::Rain => lines::word(rt, b"rain"),
-        Gauge::Pan => lines::word(rt, b"pan"),
-    }
-}
-
-fn name(rt: &impl Print, part: Part) -> io::Result<()> {
-    match part {
-        Part::Centres => lines::word(rt, b" centres"),
-        Part::Halves => lines::word(rt, b" halves"),
-        Part::EveryHalf => lines::word(rt, b" every half"),
-        Part::EveryExponent => lines::word(rt, b" every exponent"),
-        Part::Any => lines::word(rt, b" any"),
-        Part::Near => lines::word(rt, b" near"),
-    }
-}
-
-fn calls(rt: &impl Print, part: Part, said: Gauge, count: u64) -> io::Result<Drawn> {
-    let mut s = Drawn { x: 1, h: 0 };
+    let gauge = name_of(said);
+    let mut chance = Chance::new();
+    let mut sum = Checksum::new();
     for i in 0..count {
-        s = turn(rt, part, said, s, i)?;
+        let [x, y] = chance.draws::<2>();
+        let pattern = part.pattern(i, x, y);
+        let row = told(depth::depth_of(numbers::number(pattern), said));
+        if part.shows(i) {
+            println!(rt; "{gauge} {pattern}{}", Row(&row))?;
+        }
+        sum.add_row(&row);
     }
-    Ok(s)
+    println!(rt; "{gauge} {part} {sum}")
 }
 
-fn turn(rt: &impl Print, part: Part, said: Gauge, s: Drawn, i: u64) -> io::Result<Drawn> {
-    let x1 = next(s.x);
-    let x2 = next(x1);
-    let pattern = match part {
-        Part::Centres => numbers::beside(CENTRES[(i / 3 % 20) as usize], i),
-        Part::Halves => numbers::around_half(HALVES[(i / 3 % 20) as usize], i),
-        Part::EveryHalf => numbers::around_half(i / 3, i),
-        Part::EveryExponent => numbers::each_exponent(i),
-        Part::Any => numbers::any(x1, x2),
-        Part::Near => numbers::near(x1, x2),
-    };
-    let given = depth::depth_of(numbers::number(pattern), said);
-    let row = [given.number, given.place, given.depth];
-    if shown(part, i) {
-        gauge(rt, said)?;
-        lines::number(rt, pattern)?;
-        lines::row(rt, &row)?;
-        lines::end(rt)?;
+fn name_of(said: Gauge) -> &'static str {
+    match said {
+        Gauge::Rain => "rain",
+        Gauge::Pan => "pan",
     }
-    Ok(Drawn {
-        x: x2,
-        h: checksum::fold_row(s.h, &row),
-    })
 }
 
-fn shown(part: Part, i: u64) -> bool {
-    match part {
-        Part::Centres | Part::Halves => true,
-        Part::EveryHalf | Part::EveryExponent => false,
-        Part::Any | Part::Near => i % 5000 == 0,
-    }
+// Number, place and depth.
+fn told(given: Depth) -> [u64; 3] {
+    [given.number, given.place, given.depth]
 }

@@ -1,11 +1,54 @@
 // The reading of a step's lines: with a fault at every place, with two, with every count, and in a random series.
 use crate::readings;
-use crate::readings::Source;
+use crate::readings::CHOSEN;
 use forcing::list;
-use forcing::list::{Forcing, Line};
+use forcing::list::Line;
 use std::io;
-use testing::chance::{Drawn, next};
-use testing::{checksum, lines};
+use testing::chance::Chance;
+use testing::checksum::Checksum;
+use testing::lines::Row;
+
+// A line of the table at a place, N and count at 32, up to the place and just before it.
+pub fn faults(rt: &impl Print) -> io::Result<()> {
+    let mut sum = Checksum::new();
+    for (f, bad) in CHOSEN.into_iter().enumerate() {
+        for at in 0..32 {
+            let mut lines = readings::good();
+            lines[at] = Line::from(bad);
+            let shown = at % 10 == 1;
+            if shown {
+                print!(rt; "fault {f} {at}")?;
+            }
+            for count in [32, at as u64 + 1, at as u64] {
+                let given = read(lines, count, count);
+                if shown {
+                    print!(rt; "{}", Row(&given.told))?;
+                }
+                given.add(&mut sum);
+            }
+            if shown {
+                println!(rt; "")?;
+            }
+        }
+    }
+    println!(rt; "faults {sum}")
+}
+
+// Two of them, at two places.
+pub fn pairs(rt: &impl Print) -> io::Result<()> {
+    let mut sum = Checksum::new();
+    for at in 0..32 {
+        for second in CHOSEN {
+            for first in CHOSEN {
+                let mut lines = readings::good();
+                lines[at] = Line::from(first);
+                lines[(at + 7) % 32] = Line::from(second);
+                read(lines, 32, 32).add(&mut sum);
+            }
+        }
+    }
+    println!(rt; "pairs {sum}")
+}
 
 // N and counts.
 const COUNTS: [u64; 10] = [
@@ -21,153 +64,68 @@ const COUNTS: [u64; 10] = [
     18446744073709551615,
 ];
 
-#[derive(Clone, Copy)]
-pub enum Part {
-    // A line of the table at a place.
-    Faults,
-    // Two of them, at two places.
-    Pairs,
-    // Every N with every count, with good lines and with a missing one.
-    Counts,
-    Any,
-}
-
-pub fn series(rt: &impl Print, name: &[u8], part: Part, count: u64) -> io::Result<()> {
-    let s = reads(rt, part, count)?;
-    lines::line(rt, name, &[s.h])
-}
-
-fn reads(rt: &impl Print, part: Part, count: u64) -> io::Result<Drawn> {
-    let mut s = Drawn { x: 1, h: 0 };
-    for i in 0..count {
-        s = turn(rt, part, s, i)?;
+// Every N with every count, with good lines and with a missing one.
+pub fn counts(rt: &impl Print) -> io::Result<()> {
+    let mut sum = Checksum::new();
+    let good = readings::good();
+    let mut missing = good;
+    missing[1] = Line::from(CHOSEN[0]);
+    for lines in [good, missing] {
+        for count in COUNTS {
+            for n in COUNTS {
+                let given = read(lines, count, n);
+                println!(rt; "count {n} {count}{}", Row(&given.told))?;
+                given.add(&mut sum);
+            }
+        }
     }
-    Ok(s)
-}
-
-fn turn(rt: &impl Print, part: Part, s: Drawn, i: u64) -> io::Result<Drawn> {
-    match part {
-        Part::Faults => fault(rt, s, i / 32, i % 32),
-        Part::Pairs => Ok(pair(s, i % 24, i / 24 % 24, i / 576)),
-        Part::Counts => counts(
-            rt,
-            s,
-            COUNTS[(i % 10) as usize],
-            COUNTS[(i / 10 % 10) as usize],
-            i / 100,
-        ),
-        Part::Any => any(rt, s, i % 2500 == 0),
-    }
-}
-
-// The lines with another at a place; past the 32nd there is none.
-fn with(given: [Line; 32], at: u64, line: Line) -> [Line; 32] {
-    let mut lines = given;
-    if at < 32 {
-        lines[at as usize] = line;
-    }
-    lines
-}
-
-fn good() -> [Line; 32] {
-    let made = readings::made(Source::Good, 1);
-    made.lines
-}
-
-// Line f of the table at a place, N and count at 32, up to the place and just before it.
-fn fault(rt: &impl Print, s: Drawn, f: u64, at: u64) -> io::Result<Drawn> {
-    let with_fault = with(good(), at, readings::chosen(f));
-    let whole = list::read(with_fault, 32, 32);
-    let place = at % 32;
-    let last = list::read(with_fault, place + 1, place + 1);
-    let past = list::read(with_fault, place, place);
-    if at % 10 == 1 {
-        lines::word(rt, b"fault")?;
-        lines::number(rt, f)?;
-        lines::number(rt, at)?;
-        told(rt, whole)?;
-        told(rt, last)?;
-        told(rt, past)?;
-        lines::end(rt)?;
-    }
-    let h = fold(s.h, whole);
-    Ok(Drawn {
-        x: s.x,
-        h: fold(fold(h, last), past),
-    })
-}
-
-fn pair(s: Drawn, f: u64, g: u64, at: u64) -> Drawn {
-    let first = with(good(), at, readings::chosen(f));
-    let both = with(first, (at % 32 + 7) % 32, readings::chosen(g));
-    Drawn {
-        x: s.x,
-        h: fold(s.h, list::read(both, 32, 32)),
-    }
-}
-
-fn counts(rt: &impl Print, s: Drawn, n: u64, count: u64, missing: u64) -> io::Result<Drawn> {
-    let at = if missing == 0 { 32 } else { 1 };
-    let given = list::read(with(good(), at, readings::chosen(0)), count, n);
-    lines::word(rt, b"count")?;
-    lines::number(rt, n)?;
-    lines::number(rt, count)?;
-    told(rt, given)?;
-    lines::end(rt)?;
-    Ok(Drawn {
-        x: s.x,
-        h: fold(s.h, given),
-    })
+    println!(rt; "counts {sum}")
 }
 
 // N from 0 to 33, and one count of 16 is drawn too.
-fn any(rt: &impl Print, s: Drawn, shown: bool) -> io::Result<Drawn> {
-    let x1 = next(s.x);
-    let x2 = next(x1);
-    let made = readings::made(Source::Any, x2);
-    let n = x1 % 34;
-    let count = if x2 % 16 == 0 { x2 / 16 % 40 } else { n };
-    let drawn = made.lines;
-    let given = list::read(drawn, count, n);
-    if shown {
-        print(rt, n, count, given)?;
+pub fn any(rt: &impl Print) -> io::Result<()> {
+    let mut chance = Chance::new();
+    let mut sum = Checksum::new();
+    for i in 0..20000 {
+        let [x, y] = chance.draws::<2>();
+        let n = x % 34;
+        let count = if y % 16 == 0 { y / 16 % 40 } else { n };
+        let given = read(readings::any(&mut chance), count, n);
+        if i % 2500 == 0 {
+            println!(rt;
+                "read {n} {count}{}{}",
+                Row(&given.told),
+                Row(&given.depths)
+            )?;
+        }
+        given.add(&mut sum);
     }
-    Ok(Drawn {
-        x: made.x,
-        h: fold(s.h, given),
-    })
+    println!(rt; "any {sum}")
 }
 
-fn print(rt: &impl Print, n: u64, count: u64, given: Forcing) -> io::Result<()> {
-    let depths = depths_of(given);
-    lines::word(rt, b"read")?;
-    lines::number(rt, n)?;
-    lines::number(rt, count)?;
-    told(rt, given)?;
-    lines::row(rt, &depths)?;
-    lines::end(rt)
+// A reading's numbers: number, place and estimated lines; rain of all lines, then pan.
+#[derive(Clone, Copy)]
+struct Told {
+    told: [u64; 3],
+    depths: [u64; 64],
 }
 
-// The answer of a reading but for its weather.
-fn told(rt: &impl Print, given: Forcing) -> io::Result<()> {
-    lines::row(rt, &[given.number, given.place, given.estimated])
+impl Told {
+    fn add(&self, sum: &mut Checksum) {
+        sum.add_row(&self.told);
+        sum.add_row(&self.depths);
+    }
 }
 
-// Every number of the answer.
-fn fold(h: u64, given: Forcing) -> u64 {
-    let depths = depths_of(given);
-    let told = checksum::fold_row(h, &[given.number, given.place, given.estimated]);
-    checksum::fold_row(told, &depths)
-}
-
-// Rain of all lines, then pan.
-fn depths_of(given: Forcing) -> [u64; 64] {
-    let weather = given.weather;
-    let mut depths = [0u64; 64];
-    for i in 0..32 {
-        let here = weather[i];
+fn read(lines: [Line; 32], count: u64, n: u64) -> Told {
+    let given = list::read(lines, count, n);
+    let mut depths = [0; 64];
+    for (i, here) in given.weather.into_iter().enumerate() {
         depths[i] = here.rain;
         depths[i + 32] = here.pan;
     }
-    depths
+    Told {
+        told: [given.number, given.place, given.estimated],
+        depths,
+    }
 }

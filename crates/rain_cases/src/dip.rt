@@ -3,56 +3,45 @@
 use crate::asked;
 use crate::asked::Question;
 use basin::state::Basin;
-use basin_testing::{files, places};
+use basin_testing::calls;
 use std::io;
-use subbasin::record::SubBasin;
+use testing::chance::Chance;
 use testing::choices::Choice;
-use testing::{drafts, lines};
+use testing::drafts::Plan;
+use testing::lines::Row;
 
 pub fn rows(rt: &impl Print) -> io::Result<()> {
-    under(rt, 0.0)?;
-    under(rt, 2.5)
+    for pan in [0.0, 2.5] {
+        under(rt, pan)?;
+    }
+    Ok(())
 }
 
 pub fn basin() -> Basin {
-    let plan = drafts::chain(Choice::CaseA, 1, 0);
-    let start = files::started(plan, 1);
-    let b = places::with(places::with(start.basin, 4, 0), 5, 200000);
-    places::with(places::with(b, 6, 200000), 8, 20)
+    let mut b = calls::started(Plan::chain(Choice::CaseA, 1, 0), &mut Chance::new());
+    let s = &mut b.subs[0];
+    s.fixed.um = 0;
+    s.fixed.lm = 200000;
+    s.fixed.dm = 200000;
+    s.fixed.bn = 20;
+    b
 }
 
 fn under(rt: &impl Print, pan: f32) -> io::Result<()> {
+    let b = basin();
     let q = Question {
-        basin: basin(),
+        basin: &b,
         number: 1,
         pan,
     };
-    lines::word(rt, b"yields")?;
-    lines::number(rt, asked::pan_of(q))?;
-    yields(rt, asked::sub_of(q), asked::pan_of(q), 13)?;
-    lines::end(rt)?;
-    depths(rt, q, 13)
-}
-
-// Of the rains 0..count.
-fn yields(rt: &impl Print, s: SubBasin, pan: u64, count: u64) -> io::Result<()> {
-    for rain in 0..count {
-        lines::number(rt, asked::yielded(s, rain, pan))?;
+    let pan = q.pan_depth();
+    print!(rt; "yields {pan}")?;
+    for rain in 0..13 {
+        print!(rt; " {}", asked::yielded(&q.sub(), rain, pan))?;
+    }
+    println!(rt; "")?;
+    for wanted in 0..13 {
+        println!(rt; "dip {pan} {wanted}{}", Row(&q.told(wanted)))?;
     }
     Ok(())
-}
-
-// The depths 0..count.
-fn depths(rt: &impl Print, q: Question, count: u64) -> io::Result<()> {
-    for wanted in 0..count {
-        row(rt, q, wanted)?;
-    }
-    Ok(())
-}
-
-fn row(rt: &impl Print, q: Question, wanted: u64) -> io::Result<()> {
-    lines::word(rt, b"dip")?;
-    lines::row(rt, &[asked::pan_of(q), wanted])?;
-    asked::print(rt, q, wanted)?;
-    lines::end(rt)
 }

@@ -2,52 +2,45 @@
 // each, with the number's place and its edge, and the answers for a good question, one with a bad sub-basin number, two with a bad
 // pan, and two with both.
 use crate::asked::Question;
-use crate::{asked, refusals};
-use basin::state::Basin;
-use basin_testing::{files, places};
+use basin_testing::{calls, places};
 use std::io;
+use testing::chance::Chance;
 use testing::choices::Choice;
-use testing::{drafts, lines};
+use testing::drafts::Plan;
+use testing::lines::Row;
+use testing::ranges::Edge;
 
 // N and M; AREA, WU, VG, the first amount in waiting and the channel store of the first sub-basin; REACH of the second; AREA of the
 // third, which is unused; next and content of the reach; content of the last reach, which is unused.
 const PLACES: [usize; 12] = [0, 1, 2, 19, 24, 25, 40, 57, 80, 1252, 1253, 1373];
 
+// Sub-basin numbers and pans.
+const QUESTIONS: [(u64, f32); 6] = [
+    (2, 100.0),
+    (3, 100.0),
+    (2, f32::NAN),
+    (2, 100.0625),
+    (0, f32::NAN),
+    (33, 100.0625),
+];
+
 pub fn rows(rt: &impl Print) -> io::Result<()> {
-    let mut x = 1;
-    for k in 0..48 {
-        x = row(rt, k, x)?;
+    let mut chance = Chance::new();
+    for place in PLACES {
+        for (k, edge) in Edge::NEAR.into_iter().enumerate() {
+            let mut b = calls::started(Plan::chain(Choice::Ordinary, 2, 1), &mut chance);
+            places::put_edge(&mut b, place, edge);
+            print!(rt; "place {place} {k}")?;
+            for (number, pan) in QUESTIONS {
+                let q = Question {
+                    basin: &b,
+                    number,
+                    pan,
+                };
+                print!(rt; "{}", Row(&q.told(5000)))?;
+            }
+            println!(rt; "")?;
+        }
     }
     Ok(())
-}
-
-fn row(rt: &impl Print, k: usize, x: u64) -> io::Result<u64> {
-    let place = PLACES[k / 4 % 12];
-    let edge = (k % 4) as u64;
-    let plan = drafts::chain(Choice::Ordinary, 2, 1);
-    let start = files::started(plan, x);
-    let b = start.basin;
-    lines::word(rt, b"place")?;
-    lines::row(rt, &[place as u64, edge])?;
-    questions(rt, places::with(b, place, places::edge(b, place, edge)))?;
-    Ok(start.x)
-}
-
-fn questions(rt: &impl Print, b: Basin) -> io::Result<()> {
-    print(rt, b, 2, 2)?;
-    print(rt, b, 3, 2)?;
-    print(rt, b, 2, 3)?;
-    print(rt, b, 2, 7)?;
-    print(rt, b, 0, 3)?;
-    print(rt, b, 33, 7)?;
-    lines::end(rt)
-}
-
-fn print(rt: &impl Print, basin: Basin, number: u64, pan: u64) -> io::Result<()> {
-    let q = Question {
-        basin,
-        number,
-        pan: refusals::pan(pan),
-    };
-    asked::print(rt, q, 5000)
 }

@@ -4,15 +4,18 @@
 // one by each, which is a test.
 #![tactic(auto)]
 
-use basin_testing::files;
+use basin_testing::calls;
 use common::weather::Weather;
-use std::{env, io};
+use std::{env, fmt, io};
 use subbasin::record::SubBasin;
 use subbasin::step::Stepped;
 use subbasin::yields::Answer;
 use subbasin::{step, yields};
+use testing::chance::Chance;
+use testing::checksum::Checksum;
+use testing::choices;
 use testing::choices::Choice;
-use testing::{checksum, choices, drafts, lines, rows};
+use testing::drafts::Plan;
 
 #[derive(Clone, Copy)]
 enum Way {
@@ -32,146 +35,160 @@ enum State {
     Even,
 }
 
+const STATES: [State; 5] = [
+    State::Dry,
+    State::Any,
+    State::Wet,
+    State::Large,
+    State::Even,
+];
+
 fn main(rt: HostRuntime) -> io::Result<()> {
     let mut words = env::args(&rt)?;
     if let Some(word) = words.nth(1) {
         let state = match words.next() {
-            Some(state) => state_named(state.as_str()),
+            Some(state) => State::from(state.as_str()),
             None => State::Any,
         };
-        return print(&rt, way_named(word.as_str()), state, 100);
+        return print(&rt, Way::from(word.as_str()), state, 100);
     }
-    each(&rt, State::Dry)?;
-    each(&rt, State::Any)?;
-    each(&rt, State::Wet)?;
-    each(&rt, State::Large)?;
-    each(&rt, State::Even)
-}
-
-fn each(rt: &impl Print, state: State) -> io::Result<()> {
-    print(rt, Way::Call, state, 1)?;
-    print(rt, Way::None, state, 1)
+    for state in STATES {
+        print(&rt, Way::Call, state, 1)?;
+        print(&rt, Way::None, state, 1)?;
+    }
+    Ok(())
 }
 
 // By its first letter, and so the state.
-fn way_named(word: &str) -> Way {
-    match word.as_bytes() {
-        [b'c', ..] => Way::Call,
-        [b'n', ..] => Way::None,
-        _ => Way::Idle,
+impl From<&str> for Way {
+    fn from(word: &str) -> Way {
+        match word.as_bytes() {
+            [b'c', ..] => Way::Call,
+            [b'n', ..] => Way::None,
+            _ => Way::Idle,
+        }
     }
 }
 
-fn state_named(word: &str) -> State {
-    match word.as_bytes() {
-        [b'd', ..] => State::Dry,
-        [b'w', ..] => State::Wet,
-        [b'l', ..] => State::Large,
-        [b'e', ..] => State::Even,
-        _ => State::Any,
+impl From<&str> for State {
+    fn from(word: &str) -> State {
+        match word.as_bytes() {
+            [b'd', ..] => State::Dry,
+            [b'w', ..] => State::Wet,
+            [b'l', ..] => State::Large,
+            [b'e', ..] => State::Even,
+            _ => State::Any,
+        }
+    }
+}
+
+impl fmt::Display for Way {
+    fn fmt<W: fmt::Write>(&self, f: &mut fmt::Formatter<W>) -> fmt::Result {
+        f.write_str(match self {
+            Way::Idle => "idle",
+            Way::Call => "call",
+            Way::None => "none",
+        })
+    }
+}
+
+impl fmt::Display for State {
+    fn fmt<W: fmt::Write>(&self, f: &mut fmt::Formatter<W>) -> fmt::Result {
+        f.write_str(match self {
+            State::Dry => "dry",
+            State::Any => "any",
+            State::Wet => "wet",
+            State::Large => "large",
+            State::Even => "even",
+        })
     }
 }
 
 // The checksum of all answers.
 fn print(rt: &impl Print, way: Way, state: State, rounds: u64) -> io::Result<()> {
-    name_way(rt, way)?;
-    name_state(rt, state)?;
-    lines::number(rt, taken(way, state, rounds))?;
-    lines::end(rt)
+    println!(rt; "{way} {state} {}", taken(way, state, rounds))
 }
 
-fn name_way(rt: &impl Print, way: Way) -> io::Result<()> {
-    match way {
-        Way::Idle => lines::word(rt, b"idle"),
-        Way::Call => lines::word(rt, b"call"),
-        Way::None => lines::word(rt, b"none"),
+fn taken(way: Way, state: State, rounds: u64) -> Checksum {
+    let mut b = calls::started(Plan::chain(Choice::Ordinary, 32, 31), &mut Chance::new());
+    for s in &mut b.subs {
+        state.fill(s);
+    }
+    let mut sum = Checksum { h: 1 };
+    for _ in 0..rounds {
+        for s in &b.subs {
+            turn(way, state, *s, &mut sum);
+        }
+    }
+    sum
+}
+
+impl State {
+    // All but WU.
+    fn fill(self, s: &mut SubBasin) {
+        match self {
+            State::Dry => empty(s),
+            State::Any => {}
+            State::Wet => {
+                s.contents.wl = s.fixed.lm;
+                s.contents.wd = s.fixed.dm;
+                s.contents.g = s.fixed.sm;
+            }
+            State::Large => {
+                empty(s);
+                enlarge(s, 31, 0);
+            }
+            State::Even => {
+                empty(s);
+                enlarge(s, 16, 32768);
+            }
+        }
+    }
+
+    // WU.
+    fn upper(self, um: u64, h: u64) -> u64 {
+        match self {
+            State::Any => choices::up_to(um, h),
+            State::Wet => if 100 < um { um - h % 100 } else { um },
+            _ => h % 100,
+        }
     }
 }
 
-fn name_state(rt: &impl Print, state: State) -> io::Result<()> {
-    match state {
-        State::Dry => lines::word(rt, b" dry"),
-        State::Any => lines::word(rt, b" any"),
-        State::Wet => lines::word(rt, b" wet"),
-        State::Large => lines::word(rt, b" large"),
-        State::Even => lines::word(rt, b" even"),
-    }
-}
-
-fn taken(way: Way, state: State, rounds: u64) -> u64 {
-    let plan = drafts::chain(Choice::Ordinary, 32, 31);
-    let start = files::started(plan, 1);
-    let b = start.basin;
-    let subs = b.subs;
-    turns(way, state, made(subs, state), rounds % 1001 * 32)
-}
-
-fn made(subs: [SubBasin; 32], state: State) -> [SubBasin; 32] {
-    let mut made = subs;
-    for i in 0..32 {
-        let s = made[i];
-        made[i] = filled(s, state);
-    }
-    made
-}
-
-// All but WU.
-fn filled(s: SubBasin, state: State) -> SubBasin {
-    match state {
-        State::Dry => with_contents(s, 0, 0, 0),
-        State::Any => s,
-        State::Wet => with_contents(s, rows::at(s, 3), rows::at(s, 4), rows::at(s, 8)),
-        State::Large => with_contents(with_curve(s, 31, 0), 0, 0, 0),
-        State::Even => with_contents(with_curve(s, 16, 32768), 0, 0, 0),
-    }
+fn empty(s: &mut SubBasin) {
+    s.contents.wl = 0;
+    s.contents.wd = 0;
+    s.contents.g = 0;
 }
 
 // The most of UM, LM and DM.
-fn with_curve(s: SubBasin, bn: u64, im: u64) -> SubBasin {
-    let large = rows::with(rows::with(rows::with(s, 2, 100000), 3, 200000), 4, 200000);
-    rows::with(rows::with(large, 6, bn), 7, im)
+fn enlarge(s: &mut SubBasin, bn: u64, im: u64) {
+    s.fixed.um = 100000;
+    s.fixed.lm = 200000;
+    s.fixed.dm = 200000;
+    s.fixed.bn = bn;
+    s.fixed.im = im;
 }
 
-fn with_contents(s: SubBasin, wl: u64, wd: u64, g: u64) -> SubBasin {
-    rows::with(rows::with(rows::with(s, 18, wl), 19, wd), 20, g)
-}
-
-fn turns(way: Way, state: State, subs: [SubBasin; 32], count: u64) -> u64 {
-    let mut h = 1;
-    for i in 0..count {
-        let s = subs[(i % 32) as usize];
-        h = turn(way, rows::with(s, 17, upper(state, rows::at(s, 2), h)), h);
-    }
-    h
-}
-
-// WU.
-fn upper(state: State, um: u64, h: u64) -> u64 {
-    match state {
-        State::Any => choices::up_to(um, h),
-        State::Wet => if 100 < um { um - h % 100 } else { um },
-        _ => h % 100,
-    }
-}
-
-fn turn(way: Way, s: SubBasin, h: u64) -> u64 {
+// One turn for all ways, so that idle takes what the others take beside their calls.
+fn turn(way: Way, state: State, mut s: SubBasin, sum: &mut Checksum) {
     let most = Weather {
         rain: 1000000,
         pan: 0,
     };
-    let wu = checksum::fold(h, rows::at(s, 17));
+    s.contents.wu = state.upper(s.fixed.um, sum.h);
+    sum.add(s.contents.wu);
     match way {
-        Way::Idle => wu,
-        Way::Call => after_call(wu, step::step(s, most)),
-        Way::None => after_answer(wu, yields::rain_for(s, 0, 18446744073709551615)),
+        Way::Idle => {}
+        Way::Call => add_call(sum, &step::step(s, most)),
+        Way::None => add_answer(sum, &yields::rain_for(s, 0, u64::MAX)),
     }
 }
 
-fn after_call(h: u64, given: Stepped) -> u64 {
-    checksum::fold_row(h, &[given.number, given.rb, given.r, given.q])
+fn add_call(sum: &mut Checksum, given: &Stepped) {
+    sum.add_row(&[given.number, given.rb, given.r, given.q]);
 }
 
-fn after_answer(h: u64, given: Answer) -> u64 {
-    let none = if given.none { 1 } else { 0 };
-    checksum::fold_row(h, &[given.number, given.place, none, given.rain])
+fn add_answer(sum: &mut Checksum, given: &Answer) {
+    sum.add_row(&[given.number, given.place, u64::from(given.none), given.rain]);
 }

@@ -1,11 +1,13 @@
-// A sub-basin call as numbers by place: the record's, then rain and pan; and their ranges.
-use common::weather::Weather;
+// A sub-basin call as numbers by place: the record's, then rain and pan; their ranges; and what the call hands back.
+use common::weather::{MOST_PAN, MOST_RAIN, Weather};
 use std::io;
 use subbasin::record::{MOST_SLOW, SubBasin};
 use subbasin::step;
-use subbasin::step::Stepped;
-use testing::ranges::Range;
-use testing::{checksum, lines, ranges, rows};
+use testing::checksum::Checksum;
+use testing::lines::Row;
+use testing::ranges::{Edge, Range};
+use testing::rows;
+use testing::rows::Numbers;
 
 #[derive(Clone, Copy)]
 pub struct Call {
@@ -17,105 +19,96 @@ const RAIN: usize = rows::PLACES;
 
 pub const PLACES: usize = rows::PLACES + 2;
 
-pub fn answer(call: Call) -> Stepped {
-    let record = call.record;
-    let weather = call.weather;
-    step::step(record, weather)
+// What a call tells: number and place, and the flows.
+#[derive(Clone, Copy)]
+pub struct Told {
+    pub number: u64,
+    pub place: u64,
+    pub flows: [u64; 9],
 }
 
-// A call and its answer in full, every number of both; hands back the record after.
-pub fn print(rt: &impl Print, call: Call) -> io::Result<SubBasin> {
-    let record = call.record;
-    let weather = call.weather;
-    let given = answer(call);
-    let after = given.after;
-    let flows = flows_of(given);
-    lines::word(rt, b"step")?;
-    lines::record(rt, record)?;
-    lines::number(rt, weather.rain)?;
-    lines::number(rt, weather.pan)?;
-    lines::number(rt, given.number)?;
-    lines::number(rt, given.place)?;
-    lines::record(rt, after)?;
-    lines::row(rt, &flows)?;
-    lines::end(rt)?;
-    Ok(after)
-}
-
-// Every number of an answer: number and place, the record after, the flows.
-pub fn fold(h: u64, given: Stepped) -> u64 {
-    let after = given.after;
-    let flows = flows_of(given);
-    let told = checksum::fold(checksum::fold(h, given.number), given.place);
-    checksum::fold_row(checksum::fold_record(told, after), &flows)
-}
-
-pub fn flows_of(given: Stepped) -> [u64; 9] {
-    [
-        given.eu, given.el, given.ed, given.rb, given.r, given.rs, given.ri, given.rg, given.q,
-    ]
-}
-
-pub fn at(call: Call, place: usize) -> u64 {
-    let record = call.record;
-    let weather = call.weather;
-    if place < RAIN {
-        return rows::at(record, place);
-    }
-    if place == RAIN {
-        weather.rain
-    } else {
-        weather.pan
-    }
-}
-
-// The call with v at a place.
-pub fn with(call: Call, place: usize, v: u64) -> Call {
-    let record = call.record;
-    let weather = call.weather;
-    if place < RAIN {
-        return Call {
-            record: rows::with(record, place, v),
-            weather,
-        };
-    }
-    let other = if place == RAIN {
-        Weather {
-            rain: v,
-            pan: weather.pan,
+impl Call {
+    // Makes the call: the record is then the one that is handed back.
+    pub fn take(&mut self) -> Told {
+        let given = step::step(self.record, self.weather);
+        self.record = given.after;
+        Told {
+            number: given.number,
+            place: given.place,
+            flows: [
+                given.eu, given.el, given.ed, given.rb, given.r, given.rs, given.ri, given.rg,
+                given.q,
+            ],
         }
-    } else {
-        Weather {
-            rain: weather.rain,
-            pan: v,
+    }
+
+    // The same, with every number of the call and its answer printed.
+    pub fn print(&mut self, rt: &impl Print) -> io::Result<Told> {
+        let before = Numbers::from(&self.record);
+        let told = self.take();
+        let after = Numbers::from(&self.record);
+        let row = [self.weather.rain, self.weather.pan, told.number, told.place];
+        println!(rt;
+            "step{}{}{}{}",
+            Row(&before.0),
+            Row(&row),
+            Row(&after.0),
+            Row(&told.flows)
+        )?;
+        Ok(told)
+    }
+
+    pub fn at(&self, place: usize) -> u64 {
+        if place < RAIN {
+            rows::at(&self.record, place)
+        } else if place == RAIN {
+            self.weather.rain
+        } else {
+            self.weather.pan
         }
-    };
-    Call {
-        record,
-        weather: other,
+    }
+
+    pub fn put(&mut self, place: usize, v: u64) {
+        if place < RAIN {
+            rows::put(&mut self.record, place, v);
+        } else if place == RAIN {
+            self.weather.rain = v;
+        } else {
+            self.weather.pan = v;
+        }
+    }
+
+    pub fn range_of(&self, place: usize) -> Range {
+        if place < RAIN {
+            record_range(&self.record, place, MOST_SLOW)
+        } else if place == RAIN {
+            Range::between(0, MOST_RAIN)
+        } else {
+            Range::between(0, MOST_PAN)
+        }
+    }
+
+    // One above the most, or below the least where that is asked for and there is one.
+    pub fn outside(&self, place: usize, below: bool) -> u64 {
+        let range = self.range_of(place);
+        if below && 0 < range.least {
+            range.below
+        } else {
+            range.at(Edge::Above)
+        }
     }
 }
 
-pub fn range_of(call: Call, place: usize) -> Range {
-    let record = call.record;
-    if place < RAIN {
-        return record_range(record, place, MOST_SLOW);
+impl Told {
+    // Every number of an answer: number and place, the record after, the flows.
+    pub fn add(&self, sum: &mut Checksum, after: &SubBasin) {
+        sum.add_row(&[self.number, self.place]);
+        sum.add_record(after);
+        sum.add_row(&self.flows);
     }
-    ranges::between(0, if place == RAIN { 1000000 } else { 100000 })
 }
 
 // VI and VG are up to slow. REACH isn't judged: any word will do.
-pub fn record_range(record: SubBasin, place: usize, slow: u64) -> Range {
-    ranges::of_number(record, place, 4294967295, slow)
-}
-
-// One above the most, or below the least where that is asked for and there is one.
-pub fn outside(call: Call, place: usize, below: bool) -> u64 {
-    let range = range_of(call, place);
-    if below {
-        if 0 < range.least {
-            return range.below;
-        }
-    }
-    ranges::edge(range, 3)
+pub fn record_range(record: &SubBasin, place: usize, slow: u64) -> Range {
+    Range::of_number(record, place, 4294967295, slow)
 }

@@ -1,62 +1,41 @@
 // Numbers put at the places of a record, in order and within their ranges.
-use crate::calls;
-use common::amounts;
+use crate::calls::record_range;
+use std::ops::Range;
 use subbasin::record::{MOST_SLOW, MOST_START, SubBasin};
-use testing::chance::next;
+use testing::chance::Chance;
 use testing::choices::Choice;
-use testing::{choices, rows};
+use testing::rows;
 
-#[derive(Clone, Copy)]
-pub enum Pick {
-    // By choice, within the ranges of a basin file.
-    File(Choice),
-    // The most that a record may have.
-    Limit,
-    // What stands there, lowered to the most.
-    Fitted,
-}
-
-// A record and the generator.
-#[derive(Clone, Copy)]
-pub struct Start {
-    pub record: SubBasin,
-    pub x: u64,
-}
-
-// The places from..to.
-pub fn chosen(record: SubBasin, pick: Pick, from: usize, to: usize, x: u64) -> Start {
-    let mut s = Start { record, x };
-    for place in from..to {
-        s = choose(s, pick, place);
+// The places by choice, within the ranges of a basin file.
+pub fn choose(s: &mut SubBasin, choice: Choice, places: Range<usize>, chance: &mut Chance) {
+    for place in places {
+        let [x, y] = chance.draws::<2>();
+        let v = choice.among(place, record_range(s, place, MOST_START), x, y);
+        rows::put(s, place, v);
     }
+}
+
+// The most that a record may have, at every place.
+pub fn brim(s: &mut SubBasin) {
+    for place in 0..rows::PLACES {
+        let most = record_range(s, place, MOST_SLOW).most;
+        rows::put(s, place, most);
+    }
+}
+
+// What stands there lowered to the most: a start at most its capacity, KG at most what KI leaves, nothing in waiting past the lag.
+pub fn fit(s: &mut SubBasin) {
+    for place in 0..rows::CHANNEL {
+        let most = record_range(s, place, MOST_START).most;
+        let v = rows::at(s, place).min(most);
+        rows::put(s, place, v);
+    }
+}
+
+// The record with the places by choice, the others fitted to them.
+pub fn replaced(record: SubBasin, choice: Choice, places: Range<usize>) -> SubBasin {
+    let mut s = record;
+    choose(&mut s, choice, places, &mut Chance::new());
+    fit(&mut s);
     s
-}
-
-fn choose(s: Start, pick: Pick, place: usize) -> Start {
-    let x1 = next(s.x);
-    let x2 = next(x1);
-    let record = s.record;
-    let range = calls::record_range(record, place, MOST_START);
-    let limits = calls::record_range(record, place, MOST_SLOW);
-    let v = match pick {
-        Pick::File(choice) => choices::among(choice, place, range, x1, x2),
-        Pick::Limit => limits.most,
-        Pick::Fitted => amounts::least(rows::at(record, place), range.most),
-    };
-    Start {
-        record: rows::with(record, place, v),
-        x: x2,
-    }
-}
-
-// A start at most its capacity, KG at most what KI leaves, nothing in waiting past the lag.
-pub fn fitted(record: SubBasin) -> SubBasin {
-    let s = chosen(record, Pick::Fitted, 0, rows::CHANNEL, 1);
-    s.record
-}
-
-// The places from..to by choice, the others fitted to them.
-pub fn replaced(record: SubBasin, choice: Choice, from: usize, to: usize) -> SubBasin {
-    let s = chosen(record, Pick::File(choice), from, to, 1);
-    fitted(s.record)
 }

@@ -4,36 +4,37 @@ use crate::calls::Call;
 use common::weather::Weather;
 use std::io;
 use subbasin::record::SubBasin;
-use testing::{lines, ranges};
+use testing::checksum::Checksum;
+use testing::ranges::Edge;
 
-// Places 0..count.
-pub fn places(rt: &impl Print, record: SubBasin, count: usize) -> io::Result<()> {
+pub fn places(rt: &impl Print, record: SubBasin) -> io::Result<()> {
     let call = Call {
         record,
         weather: Weather { rain: 0, pan: 0 },
     };
-    for place in 0..count {
-        line(rt, call, place)?;
+    for place in 0..calls::PLACES {
+        line(rt, &call, place)?;
     }
     Ok(())
 }
 
 // The place, the refusal number of each of the five, and the checksum of their answers.
-fn line(rt: &impl Print, call: Call, place: usize) -> io::Result<()> {
-    lines::word(rt, b"limits")?;
-    lines::number(rt, place as u64)?;
-    let range = calls::range_of(call, place);
-    let h1 = told(rt, call, place, calls::outside(call, place, true), 0)?;
-    let h2 = told(rt, call, place, ranges::edge(range, 1), h1)?;
-    let h3 = told(rt, call, place, ranges::edge(range, 2), h2)?;
-    let h4 = told(rt, call, place, ranges::edge(range, 3), h3)?;
-    let h5 = told(rt, call, place, ranges::edge(range, 4), h4)?;
-    lines::number(rt, h5)?;
-    lines::end(rt)
-}
-
-fn told(rt: &impl Print, call: Call, place: usize, v: u64, h: u64) -> io::Result<u64> {
-    let given = calls::answer(calls::with(call, place, v));
-    lines::number(rt, given.number)?;
-    Ok(calls::fold(h, given))
+fn line(rt: &impl Print, call: &Call, place: usize) -> io::Result<()> {
+    let range = call.range_of(place);
+    let mut sum = Checksum::new();
+    print!(rt; "limits {place}")?;
+    for v in [
+        call.outside(place, true),
+        range.least,
+        range.most,
+        range.at(Edge::Above),
+        range.at(Edge::Far),
+    ] {
+        let mut here = *call;
+        here.put(place, v);
+        let told = here.take();
+        print!(rt; " {}", told.number)?;
+        told.add(&mut sum, &here.record);
+    }
+    println!(rt; " {sum}")
 }

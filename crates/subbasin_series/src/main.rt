@@ -11,10 +11,10 @@ mod series;
 
 use calls::Call;
 use common::weather::Weather;
-use plan::Row;
 use std::io;
-use subbasin::record;
 use subbasin::record::SubBasin;
+use testing::choices::Choice;
+use testing::climate::Climate;
 
 fn main(rt: HostRuntime) -> io::Result<()> {
     two_steps(&rt, basins::case_a(), 135000, 10000)?;
@@ -25,19 +25,17 @@ fn main(rt: HostRuntime) -> io::Result<()> {
     cuts(&rt, basins::middling())?;
     cuts(&rt, basins::brimming(0))?;
     // The same where EP takes 10,000 of the rain.
-    step(&rt, basins::case_a(), 14999, 10000)?;
-    step(&rt, basins::case_a(), 15000, 10000)?;
-    step(&rt, basins::case_a(), 15001, 10000)?;
-    step(&rt, basins::case_a(), 20000, 10000)?;
-    step(&rt, basins::case_a(), 20001, 10000)?;
-    limits::places(&rt, basins::case_a(), calls::PLACES)?;
-    limits::places(&rt, basins::middling(), calls::PLACES)?;
-    plan::weathers(&rt, b"case_a", basins::case_a())?;
-    plan::weathers(&rt, b"middling", basins::middling())?;
+    for rain in [14999, 15000, 15001, 20000, 20001] {
+        step(&rt, basins::case_a(), rain, 10000)?;
+    }
+    limits::places(&rt, basins::case_a())?;
+    limits::places(&rt, basins::middling())?;
+    plan::weathers(&rt, "case_a", basins::case_a())?;
+    plan::weathers(&rt, "middling", basins::middling())?;
     plan::extremes(&rt)?;
-    plan::rows(&rt, Row::Ends, record::WORDS)?;
-    plan::rows(&rt, Row::Corners, 100)?;
-    plan::rows(&rt, Row::Any, 100)
+    plan::ends(&rt)?;
+    plan::drawn(&rt, "corner", Choice::End, Climate::Spells)?;
+    plan::drawn(&rt, "any", Choice::Any, Climate::Mixed)
 }
 
 // A step with rain alone and a step with pan alone, in full. Where a brimming record recedes slowest, the first leaves the channel
@@ -50,21 +48,17 @@ fn two_steps(rt: &impl Print, start: SubBasin, rain: u64, pan: u64) -> io::Resul
 
 // Net rain at the ends of slices and beside them, and of 200 slices.
 fn cuts(rt: &impl Print, start: SubBasin) -> io::Result<()> {
-    two_steps(rt, start, 4999, 10000)?;
-    two_steps(rt, start, 5000, 10000)?;
-    two_steps(rt, start, 5001, 10000)?;
-    two_steps(rt, start, 9999, 10000)?;
-    two_steps(rt, start, 10000, 10000)?;
-    two_steps(rt, start, 10001, 10000)?;
-    two_steps(rt, start, 1000000, 10000)
+    for rain in [4999, 5000, 5001, 9999, 10000, 10001, 1000000] {
+        two_steps(rt, start, rain, 10000)?;
+    }
+    Ok(())
 }
 
 fn step(rt: &impl Print, record: SubBasin, rain: u64, pan: u64) -> io::Result<SubBasin> {
-    calls::print(
-        rt,
-        Call {
-            record,
-            weather: Weather { rain, pan },
-        },
-    )
+    let mut call = Call {
+        record,
+        weather: Weather { rain, pan },
+    };
+    call.print(rt)?;
+    Ok(call.record)
 }

@@ -1,23 +1,36 @@
-// The checksum h over a row of numbers v: h := (h × 65,599 + v mod 4,294,967,291) mod 4,294,967,291.
-use subbasin::record;
+// The checksum h over numbers v: h := (h × 65,599 + v mod 4,294,967,291) mod 4,294,967,291.
+use crate::rows::Numbers;
+use std::fmt;
 use subbasin::record::SubBasin;
 
-pub fn fold(h: u64, v: u64) -> u64 {
-    (h % 4294967291 * 65599 + v % 4294967291) % 4294967291
+#[derive(Clone, Copy, PartialEq, Eq)]
+pub struct Checksum {
+    pub h: u64,
 }
 
-pub fn fold_row(h: u64, row: &[u64]) -> u64 {
-    let mut h = h;
-    for i in 0..row.len() {
-        h = fold(h, row[i]);
+impl Checksum {
+    pub fn new() -> Checksum {
+        Checksum { h: 0 }
     }
-    h
+
+    pub fn add(&mut self, v: u64) {
+        self.h = (self.h % 4294967291 * 65599 + v % 4294967291) % 4294967291;
+    }
+
+    pub fn add_row(&mut self, row: &[u64]) {
+        for v in row {
+            self.add(*v);
+        }
+    }
+
+    // A record's words, its amounts in waiting and its channel store.
+    pub fn add_record(&mut self, s: &SubBasin) {
+        self.add_row(&Numbers::from(s).0);
+    }
 }
 
-// A record's words, its amounts in waiting and its channel store.
-pub fn fold_record(h: u64, s: SubBasin) -> u64 {
-    let words = record::words_of(s);
-    let line = s.line;
-    let waiting = line.waiting;
-    fold(fold_row(fold_row(h, &words), &waiting), s.channel)
+impl fmt::Display for Checksum {
+    fn fmt<W: fmt::Write>(&self, f: &mut fmt::Formatter<W>) -> fmt::Result {
+        write!(f, "{}", self.h)
+    }
 }

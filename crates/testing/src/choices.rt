@@ -1,7 +1,7 @@
 // A number chosen within its range.
 use crate::case_a;
 use crate::ranges::Range;
-use common::amounts;
+use std::fmt;
 use subbasin::record;
 
 #[derive(Clone, Copy)]
@@ -18,15 +18,39 @@ pub enum Choice {
     Any,
 }
 
-// For the place of a sub-basin's record.
-pub fn among(choice: Choice, place: usize, range: Range, x: u64, y: u64) -> u64 {
-    match choice {
-        Choice::CaseA => case_a::WORDS[place % record::WORDS],
-        Choice::Ordinary => ordinary(place, range.most, x),
-        Choice::Least => range.least,
-        Choice::Most => range.most,
-        Choice::End => if x % 2 == 0 { range.least } else { range.most },
-        Choice::Any => any(range, x, y),
+impl Choice {
+    // All but case A.
+    pub const DRAWN: [Choice; 5] = [
+        Choice::Ordinary,
+        Choice::Least,
+        Choice::Most,
+        Choice::End,
+        Choice::Any,
+    ];
+
+    // For the place of a sub-basin's record, by two draws.
+    pub fn among(self, place: usize, range: Range, x: u64, y: u64) -> u64 {
+        match self {
+            Choice::CaseA => case_a::WORDS[place % record::WORDS],
+            Choice::Ordinary => ordinary(place, range.most, x),
+            Choice::Least => range.least,
+            Choice::Most => range.most,
+            Choice::End => if x % 2 == 0 { range.least } else { range.most },
+            Choice::Any => any(range, x, y),
+        }
+    }
+}
+
+impl fmt::Display for Choice {
+    fn fmt<W: fmt::Write>(&self, f: &mut fmt::Formatter<W>) -> fmt::Result {
+        f.write_str(match self {
+            Choice::CaseA => "case A",
+            Choice::Ordinary => "ordinary",
+            Choice::Least => "least",
+            Choice::Most => "most",
+            Choice::End => "ends",
+            Choice::Any => "any",
+        })
     }
 }
 
@@ -61,13 +85,10 @@ fn any(range: Range, x: u64, y: u64) -> u64 {
         2 => y % 20,
         _ => up_to(range.most, y),
     };
-    if v < range.least {
-        return range.least;
-    }
-    amounts::least(v, range.most)
+    v.max(range.least).min(range.most)
 }
 
-// A number from 0 to the most, which is 2^56 or less.
+// A number from 0 to the most, which is below the greatest u64.
 pub fn up_to(most: u64, x: u64) -> u64 {
-    x % (most % 72057594037927937 + 1)
+    x % most.saturating_add(1)
 }

@@ -1,5 +1,6 @@
 // The weather of a step, drawn.
 use common::weather::Weather;
+use std::fmt;
 
 #[derive(Clone, Copy)]
 pub enum Climate {
@@ -13,47 +14,58 @@ pub enum Climate {
     Spells,
 }
 
-// The weather of step i.
-pub fn weather(climate: Climate, i: u64, x: u64, y: u64) -> Weather {
-    match climate {
-        Climate::Spells => drawn(spell(i / 32 % 5), x, y),
-        _ => drawn(climate, x, y),
+impl Climate {
+    pub const ALL: [Climate; 6] = [
+        Climate::Ordinary,
+        Climate::Dry,
+        Climate::Wet,
+        Climate::Drizzle,
+        Climate::Mixed,
+        Climate::Spells,
+    ];
+
+    // The weather of step i, by two draws.
+    pub fn weather(self, i: u64, x: u64, y: u64) -> Weather {
+        let here = match self {
+            Climate::Spells => Climate::ALL[(i / 32 % 5) as usize],
+            climate => climate,
+        };
+        Weather {
+            rain: here.rain(x),
+            pan: here.pan(y),
+        }
+    }
+
+    fn rain(self, x: u64) -> u64 {
+        match self {
+            Climate::Ordinary => if x % 3 == 0 { x / 3 % 60000 } else { 0 },
+            Climate::Dry => 0,
+            Climate::Wet => 1000000 - x % 1000,
+            Climate::Drizzle => x % 8,
+            _ => x % 1000001 >> (x / 1000001 % 20),
+        }
+    }
+
+    fn pan(self, x: u64) -> u64 {
+        match self {
+            Climate::Ordinary => x % 8000,
+            Climate::Dry => 100000,
+            Climate::Wet => x % 5000,
+            Climate::Drizzle => x % 8,
+            _ => x % 100001 >> (x / 100001 % 17),
+        }
     }
 }
 
-fn spell(k: u64) -> Climate {
-    match k {
-        0 => Climate::Ordinary,
-        1 => Climate::Dry,
-        2 => Climate::Wet,
-        3 => Climate::Drizzle,
-        _ => Climate::Mixed,
-    }
-}
-
-fn drawn(climate: Climate, x: u64, y: u64) -> Weather {
-    Weather {
-        rain: rain(climate, x),
-        pan: pan(climate, y),
-    }
-}
-
-fn rain(climate: Climate, x: u64) -> u64 {
-    match climate {
-        Climate::Ordinary => if x % 3 == 0 { x / 3 % 60000 } else { 0 },
-        Climate::Dry => 0,
-        Climate::Wet => 1000000 - x % 1000,
-        Climate::Drizzle => x % 8,
-        _ => x % 1000001 >> (x / 1000001 % 20),
-    }
-}
-
-fn pan(climate: Climate, x: u64) -> u64 {
-    match climate {
-        Climate::Ordinary => x % 8000,
-        Climate::Dry => 100000,
-        Climate::Wet => x % 5000,
-        Climate::Drizzle => x % 8,
-        _ => x % 100001 >> (x / 100001 % 17),
+impl fmt::Display for Climate {
+    fn fmt<W: fmt::Write>(&self, f: &mut fmt::Formatter<W>) -> fmt::Result {
+        f.write_str(match self {
+            Climate::Ordinary => "ordinary",
+            Climate::Dry => "dry",
+            Climate::Wet => "wet",
+            Climate::Drizzle => "drizzle",
+            Climate::Mixed => "mixed",
+            Climate::Spells => "spells",
+        })
     }
 }

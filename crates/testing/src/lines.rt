@@ -1,44 +1,20 @@
-// What is printed: words, then numbers in decimal with a space before each.
-use std::io;
-use subbasin::record;
-use subbasin::record::SubBasin;
+// Numbers as they are printed: in decimal with a space before each.
+use std::{fmt, io};
 
-pub fn word(rt: &impl Print, text: &[u8]) -> io::Result<()> {
-    rt.write_all(text)
-}
+#[derive(Clone, Copy)]
+pub struct Row<'a>(pub &'a [u64]);
 
-pub fn number(rt: &impl Print, n: u64) -> io::Result<()> {
-    print!(rt; " {n}")
-}
-
-// A number that begins a line.
-pub fn first(rt: &impl Print, n: u64) -> io::Result<()> {
-    print!(rt; "{n}")
-}
-
-pub fn row(rt: &impl Print, numbers: &[u64]) -> io::Result<()> {
-    for n in numbers {
-        number(rt, *n)?;
+impl fmt::Display for Row<'_> {
+    fn fmt<W: fmt::Write>(&self, f: &mut fmt::Formatter<W>) -> fmt::Result {
+        for n in self.0 {
+            write!(f, " {n}")?;
+        }
+        Ok(())
     }
-    Ok(())
 }
 
-pub fn end(rt: &impl Print) -> io::Result<()> {
-    println!(rt; "")
-}
-
-// A whole line.
+// A whole line that begins with a name.
 pub fn line(rt: &impl Print, name: &[u8], numbers: &[u64]) -> io::Result<()> {
-    word(rt, name)?;
-    row(rt, numbers)?;
-    end(rt)
-}
-
-// A record's words, its amounts in waiting and its channel store.
-pub fn record(rt: &impl Print, s: SubBasin) -> io::Result<()> {
-    let words = record::words_of(s);
-    let line = s.line;
-    row(rt, &words)?;
-    row(rt, &line.waiting)?;
-    number(rt, s.channel)
+    rt.write_all(name)?;
+    println!(rt; "{}", Row(numbers))
 }

@@ -1,54 +1,55 @@
 // A sub-basin's record as numbers by place: the basin file's words, the 15 amounts in waiting, the channel store.
 use subbasin::record;
-use subbasin::record::{LagLine, SubBasin};
+use subbasin::record::SubBasin;
 
 // The place of the channel store, the last.
 pub const CHANNEL: usize = record::WORDS + 15;
 
 pub const PLACES: usize = record::WORDS + 16;
 
-pub fn at(s: SubBasin, place: usize) -> u64 {
-    let words = record::words_of(s);
-    let line = s.line;
-    let waiting = line.waiting;
-    if place < record::WORDS {
-        return words[place];
+#[derive(Clone, Copy)]
+pub struct Numbers(pub [u64; PLACES]);
+
+impl Numbers {
+    // At a place; past the last place stands the channel store too.
+    pub fn at(&self, place: usize) -> u64 {
+        self.0[place.min(CHANNEL)]
     }
-    if place < CHANNEL {
-        return waiting[place - record::WORDS];
+
+    pub fn put(&mut self, place: usize, v: u64) {
+        self.0[place.min(CHANNEL)] = v;
     }
-    s.channel
+}
+
+impl From<&SubBasin> for Numbers {
+    fn from(s: &SubBasin) -> Numbers {
+        let mut numbers = [s.channel; PLACES];
+        numbers[..record::WORDS].copy_from_slice(&record::words_of(*s));
+        numbers[record::WORDS..CHANNEL].copy_from_slice(&s.line.waiting);
+        Numbers(numbers)
+    }
+}
+
+impl From<Numbers> for SubBasin {
+    fn from(numbers: Numbers) -> SubBasin {
+        let mut words = [0; record::WORDS];
+        words.copy_from_slice(&numbers.0[..record::WORDS]);
+        let mut s = record::of_words(words);
+        s.line
+            .waiting
+            .copy_from_slice(&numbers.0[record::WORDS..CHANNEL]);
+        s.channel = numbers.0[CHANNEL];
+        s
+    }
+}
+
+pub fn at(s: &SubBasin, place: usize) -> u64 {
+    Numbers::from(s).at(place)
 }
 
 // The record with v at a place.
-pub fn with(s: SubBasin, place: usize, v: u64) -> SubBasin {
-    let mut words = record::words_of(s);
-    let line = s.line;
-    let mut waiting = line.waiting;
-    let mut channel = s.channel;
-    if place < record::WORDS {
-        words[place] = v;
-    } else if place < CHANNEL {
-        waiting[place - record::WORDS] = v;
-    } else {
-        channel = v;
-    }
-    of(words, waiting, channel)
-}
-
-pub fn of(words: [u64; record::WORDS], waiting: [u64; 15], channel: u64) -> SubBasin {
-    let empty = record::of_words(words);
-    let fixed = empty.fixed;
-    let contents = empty.contents;
-    let before = empty.line;
-    let line = LagLine {
-        lag: before.lag,
-        waiting,
-    };
-    SubBasin {
-        fixed,
-        contents,
-        line,
-        channel,
-    }
+pub fn put(s: &mut SubBasin, place: usize, v: u64) {
+    let mut numbers = Numbers::from(&*s);
+    numbers.put(place, v);
+    *s = SubBasin::from(numbers);
 }

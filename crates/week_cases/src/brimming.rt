@@ -1,69 +1,45 @@
 // Basins of 32 sub-basins and 31 reaches with every amount at its limit. Where not all flows at once, the first step carries stores
 // beyond their limits, and the next one gets 9 inside the week.
+use crate::list;
 use crate::told::Told;
-use crate::{list, told};
-use basin::state::Basin;
-use basin_testing::{files, places, plans, weeks};
+use basin_testing::calls;
+use basin_testing::places::Brim;
 use std::io;
+use testing::chance::Chance;
 use testing::choices::Choice;
-use testing::drafts::Plan;
-use testing::lines;
+use testing::drafts::{Plan, Shape};
 
-const LENGTHS: [u64; 5] = [0, 32, 33, 64, 224];
+const LENGTHS: [usize; 5] = [0, 32, 33, 64, 224];
 
 pub fn rows(rt: &impl Print) -> io::Result<()> {
-    let mut t = told::start(1);
-    for k in 0..8 {
-        t = basin(rt, t, k)?;
+    let mut chance = Chance::new();
+    let mut told = Told::new();
+    for brim in Brim::ALL {
+        for shape in Shape::OWN {
+            row(rt, brim, shape, &mut chance, &mut told)?;
+        }
     }
-    lines::word(rt, b"brimming")?;
-    told::compared(rt, t.h, t.g)
+    println!(rt; "brimming {told}")
 }
 
-fn basin(rt: &impl Print, t: Told, k: u64) -> io::Result<Told> {
-    let plan = Plan {
-        choice: Choice::Most,
-        shape: plans::shape(k % 4),
-        n: 32,
-        m: 31,
-    };
-    let start = files::started(plan, t.x);
-    let brim = places::brimming(start.basin, places::PLACES, k < 4);
-    let started = Told {
-        x: start.x,
-        h: t.h,
-        g: t.g,
-    };
-    lists(rt, started, brim, k)
-}
-
-fn lists(rt: &impl Print, start: Told, b: Basin, k: u64) -> io::Result<Told> {
-    let mut t = start;
-    for i in 0..5 {
-        t = list(rt, t, b, k, i)?;
+// Weeks of the basin, and after each an empty list for the one that it hands back.
+fn row(
+    rt: &impl Print,
+    brim: Brim,
+    shape: Shape,
+    chance: &mut Chance,
+    told: &mut Told,
+) -> io::Result<()> {
+    let mut full = calls::started(Plan::new(Choice::Most, shape, 32, 31), chance);
+    brim.fill(&mut full);
+    for long in LENGTHS {
+        let mut b = full;
+        let mut buffer = list::BUFFER;
+        let lines = list::drawn(&mut buffer, long, chance);
+        print!(rt; "{shape} {brim} {long}")?;
+        told.week(rt, &mut b, lines)?;
+        print!(rt; "{shape} {brim} 0")?;
+        told.week(rt, &mut b, &[])?;
     }
-    Ok(t)
-}
-
-// The week, and an empty list for the basin that it hands back.
-fn list(rt: &impl Print, t: Told, b: Basin, k: u64, i: usize) -> io::Result<Told> {
-    let long = LENGTHS[i % 5];
-    let list = list::drawn(long as usize, t.x);
-    let drawn = list.lines;
-    name(rt, k, long)?;
-    let first = told::week(rt, t, b, drawn, long, list.x)?;
-    let ran = weeks::week_of(b, drawn, long);
-    let after = ran.basin;
-    name(rt, k, 0)?;
-    told::week(rt, first, after, drawn, 0, list.x)
-}
-
-fn name(rt: &impl Print, k: u64, long: u64) -> io::Result<()> {
-    plans::shape_name(rt, k % 4)?;
-    if k < 4 {
-        lines::word(rt, b" at once")?;
-    } else {
-        lines::word(rt, b" brimming")?;
-    }
-    lines::number(rt, long)
+    Ok(())
 }

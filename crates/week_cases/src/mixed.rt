@@ -1,87 +1,47 @@
 // Lists that mix week calls with single steps, on basins of every shape; beside each runs a second basin that takes every step singly.
+use crate::told::Told;
 use crate::{list, singly, told};
 use basin::state::Basin;
-use basin::week::Ran;
-use basin_testing::{files, places, plans, weeks};
-use common::amounts;
+use basin_testing::calls::Ran;
+use basin_testing::weather::FAULTS;
+use basin_testing::{calls, places};
 use forcing::list::Line;
 use std::io;
-use std::num::wrapping_add_u64;
-use testing::chance::next;
-use testing::drafts::Plan;
-use testing::lines;
+use testing::chance::Chance;
+use testing::choices::Choice;
+use testing::drafts::{Plan, SIZES, Shape};
 
-// N and M.
-const SIZES: [u64; 12] = [32, 31, 7, 5, 1, 0, 2, 1, 32, 0, 1, 31];
-
-// A list as far as it has come: both basins, the generator, both checksums, and how many steps were accepted.
+// A list as far as it has come: both basins, both checksums, and how many steps were accepted.
 #[derive(Clone, Copy)]
 struct Mixed {
     basin: Basin,
     beside: Basin,
-    x: u64,
-    h: u64,
-    g: u64,
+    told: Told,
     taken: u64,
 }
 
-// A list for every size and shape.
+// A list for every size and shape; the choices go round beside them.
 pub fn rows(rt: &impl Print) -> io::Result<()> {
-    let mut x = 1;
-    for k in 0..24 {
-        x = row(rt, k, x)?;
+    let mut chance = Chance::new();
+    for k in 0..24usize {
+        let (n, m) = SIZES[k / 4 % 6];
+        let plan = Plan::new(Choice::DRAWN[k % 5], Shape::OWN[k % 4], n, m);
+        let basin = calls::started(plan, &mut chance);
+        let mut mixed = Mixed {
+            basin,
+            beside: basin,
+            told: Told::new(),
+            taken: 0,
+        };
+        for i in 0..64 {
+            mixed.turn(rt, i, &mut chance)?;
+        }
+        println!(rt; "{plan} {} {}", mixed.taken, mixed.told)?;
     }
     Ok(())
 }
 
-fn row(rt: &impl Print, k: u64, x: u64) -> io::Result<u64> {
-    let size = (k / 4 % 6) as usize;
-    let plan = Plan {
-        choice: plans::choice(k % 5),
-        shape: plans::shape(k % 4),
-        n: SIZES[2 * size],
-        m: SIZES[2 * size + 1],
-    };
-    let start = files::started(plan, x);
-    let basin = start.basin;
-    let s = entries(
-        rt,
-        Mixed {
-            basin,
-            beside: basin,
-            x: start.x,
-            h: 0,
-            g: 0,
-            taken: 0,
-        },
-        64,
-    )?;
-    plans::shape_name(rt, k % 4)?;
-    plans::choice_name(rt, k % 5)?;
-    lines::row(rt, &[plan.n, plan.m, s.taken])?;
-    told::compared(rt, s.h, s.g)?;
-    Ok(s.x)
-}
-
-fn entries(rt: &impl Print, start: Mixed, count: u64) -> io::Result<Mixed> {
-    let mut s = start;
-    for i in 0..count {
-        s = turn(rt, s, i)?;
-    }
-    Ok(s)
-}
-
-// An entry: how it is taken, its lines, the generator and two draws.
-#[derive(Clone, Copy)]
-struct Entry {
-    way: Way,
-    lines: [Line; 2048],
-    long: u64,
-    x: u64,
-    y: u64,
-    z: u64,
-}
-
+// How a list is taken.
 #[derive(Clone, Copy)]
 enum Way {
     Step,
@@ -90,101 +50,86 @@ enum Way {
     Astray,
 }
 
-fn turn(rt: &impl Print, s: Mixed, i: u64) -> io::Result<Mixed> {
-    let basin = s.basin;
-    let e = drawn(basin.n % 33, s.x);
-    let way = e.way;
-    let lines = e.lines;
-    match way {
-        Way::Step => went_on(rt, s, i, e, singly::one(basin, lines)),
-        Way::Week => went_on(rt, s, i, e, weeks::week_of(basin, lines, e.long)),
-        Way::Astray => Ok(astray(s, e)),
+impl Mixed {
+    // Of eight lists two are single steps and one is astray.
+    fn turn(&mut self, rt: &impl Print, i: u64, chance: &mut Chance) -> io::Result<()> {
+        let n = self.basin.n % 33;
+        let [y, z] = chance.draws::<2>();
+        let way = match y % 8 {
+            0 | 1 => Way::Step,
+            2 => Way::Astray,
+            _ => Way::Week,
+        };
+        let long = match way {
+            Way::Step => n,
+            _ => length(n, y / 8, z),
+        };
+        let mut buffer = list::BUFFER;
+        let lines = list::drawn(&mut buffer, long as usize, chance);
+        spoil(lines, y, z);
+        match way {
+            Way::Step => {
+                let ran = singly::steps(&mut self.basin, lines);
+                self.go_on(rt, i, &ran, lines)
+            }
+            Way::Week => {
+                let ran = calls::week(&mut self.basin, lines);
+                self.go_on(rt, i, &ran, lines)
+            }
+            Way::Astray => {
+                self.astray(lines, y, z);
+                Ok(())
+            }
+        }
     }
-}
 
-// Every eighth entry is printed.
-fn went_on(rt: &impl Print, s: Mixed, i: u64, e: Entry, ran: Ran) -> io::Result<Mixed> {
-    let before = s.beside;
-    let lines = e.lines;
-    let beside = singly::week(before, lines, e.long);
-    if i % 8 == 0 {
-        lines::first(rt, i)?;
-        lines::number(rt, e.long)?;
-        told::print(rt, ran)?;
+    // Every eighth list is printed.
+    fn go_on(&mut self, rt: &impl Print, i: u64, ran: &Ran, lines: &[Line]) -> io::Result<()> {
+        let singly = singly::week(&mut self.beside, lines);
+        if i % 8 == 0 {
+            print!(rt; "{i} {}", lines.len())?;
+            told::print(rt, ran, &self.basin)?;
+        }
+        self.told.add(ran, &self.basin, &singly, &self.beside);
+        self.taken = self.taken.wrapping_add(ran.count);
+        Ok(())
     }
-    let basin = ran.basin;
-    let second = beside.basin;
-    Ok(Mixed {
-        basin,
-        beside: second,
-        x: e.x,
-        h: told::fold(s.h, ran),
-        g: told::fold(s.g, beside),
-        taken: wrapping_add_u64(s.taken, ran.count),
-    })
-}
 
-fn astray(s: Mixed, e: Entry) -> Mixed {
-    let basin = s.basin;
-    let second = s.beside;
-    let lines = e.lines;
-    let ran = weeks::week_of(places::damaged(basin, e.y, e.z), lines, e.long);
-    let beside = singly::week(places::damaged(second, e.y, e.z), lines, e.long);
-    Mixed {
-        basin,
-        beside: second,
-        x: e.x,
-        h: told::fold(s.h, ran),
-        g: told::fold(s.g, beside),
-        taken: s.taken,
-    }
-}
-
-// Of eight entries two are single steps and one is astray.
-fn drawn(n: u64, x: u64) -> Entry {
-    let y = next(x);
-    let z = next(y);
-    let long = match y % 8 {
-        0 | 1 => n,
-        _ => length(n, y / 8, z),
-    };
-    let list = list::drawn(long as usize, z);
-    let drawn = list.lines;
-    let lines = spoiled(drawn, long, y, z);
-    Entry {
-        way: way_of(y % 8),
-        lines,
-        long,
-        x: list.x,
-        y,
-        z,
-    }
-}
-
-fn way_of(k: u64) -> Way {
-    match k {
-        0 | 1 => Way::Step,
-        2 => Way::Astray,
-        _ => Way::Week,
+    fn astray(&mut self, lines: &[Line], y: u64, z: u64) {
+        let mut basin = self.basin;
+        let mut beside = self.beside;
+        places::damage(&mut basin, y, z);
+        places::damage(&mut beside, y, z);
+        let ran = calls::week(&mut basin, lines);
+        let singly = singly::week(&mut beside, lines);
+        self.told.add(&ran, &basin, &singly, &beside);
     }
 }
 
 // Of 0 to 8 steps; one in eight has a line more, and one a line less where there is one.
 fn length(n: u64, y: u64, z: u64) -> u64 {
-    let whole = amounts::times(y % 9, n) % 2048;
+    let whole = y % 9 * (n % 33);
     match z % 8 {
         0 => whole + 1,
-        1 => if 0 < whole { whole - 1 } else { 0 },
+        1 => whole.saturating_sub(1),
         _ => whole,
     }
 }
 
-// One list in three has two bad lines, among its own and the one past them.
-fn spoiled(lines: [Line; 2048], long: u64, y: u64, z: u64) -> [Line; 2048] {
+// Of one list in three two lines are bad, among its own and the one past them.
+fn spoil(lines: &mut [Line], y: u64, z: u64) {
     if z / 8 % 3 != 0 {
-        return lines;
+        return;
     }
-    let ends = long % 2048 + 1;
-    let once = list::with_bad(lines, (y / 128 % ends) as usize, z / 32 % 9);
-    list::with_bad(once, (z / 512 % ends) as usize, y / 1024 % 9)
+    let ends = lines.len() as u64 + 1;
+    list::spoil(
+        lines,
+        (y / 128 % ends) as usize,
+        FAULTS[(z / 32 % 9) as usize],
+    );
+    list::spoil(
+        lines,
+        (z / 512 % ends) as usize,
+        FAULTS[(y / 1024 % 9) as usize],
+    );
 }

@@ -1,32 +1,28 @@
 // A bad line in a week of five steps on three sub-basins: each fault, in the first, the middle and the last step, in its first and its
 // last line. A line for each, with fault, step and line.
+use crate::list;
 use crate::told::Told;
-use crate::{list, told};
-use basin_testing::files;
+use basin_testing::calls;
+use basin_testing::weather::FAULTS;
 use std::io;
+use testing::chance::Chance;
 use testing::choices::Choice;
-use testing::{drafts, lines};
+use testing::drafts::Plan;
 
 pub fn rows(rt: &impl Print) -> io::Result<()> {
-    let mut t = told::start(1);
-    for k in 0..54 {
-        t = row(rt, t, k)?;
+    let mut chance = Chance::new();
+    let mut told = Told::new();
+    for (k, fault) in FAULTS.into_iter().enumerate() {
+        for step in [1, 3, 5] {
+            for line in [1, 3] {
+                let mut b = calls::started(Plan::chain(Choice::Ordinary, 3, 2), &mut chance);
+                let mut buffer = list::BUFFER;
+                let lines = list::drawn(&mut buffer, 15, &mut chance);
+                list::spoil(lines, 3 * (step - 1) + line - 1, fault);
+                print!(rt; "bad line {k} {step} {line}")?;
+                told.week(rt, &mut b, lines)?;
+            }
+        }
     }
-    lines::word(rt, b"bad lines")?;
-    told::compared(rt, t.h, t.g)
-}
-
-fn row(rt: &impl Print, t: Told, k: u64) -> io::Result<Told> {
-    let fault = k / 6 % 9;
-    let step = k / 2 % 3 * 2;
-    let line = k % 2 * 2;
-    let plan = drafts::chain(Choice::Ordinary, 3, 2);
-    let start = files::started(plan, t.x);
-    let list = list::drawn(15, start.x);
-    let basin = start.basin;
-    let drawn = list.lines;
-    let bad = list::with_bad(drawn, (3 * step + line) as usize, fault);
-    lines::word(rt, b"bad line")?;
-    lines::row(rt, &[fault, step + 1, line + 1])?;
-    told::week(rt, t, basin, bad, 15, list.x)
+    println!(rt; "bad lines {told}")
 }

@@ -1,100 +1,82 @@
 // A week's steps taken singly, with what they hand back put together.
-use crate::list;
 use basin::state::Basin;
-use basin::step;
-use basin::step::{Outcome, Report, ZEROS};
-use basin::week::Ran;
-use common::amounts;
+use basin::step::{Report, ZEROS};
+use basin_testing::calls;
+use basin_testing::calls::{Ran, Stepped};
+use basin_testing::weather::BLANK;
+use common::refusal::Refusal;
 use forcing::list::Line;
-use std::num::wrapping_add_u64;
 
-pub fn week(b: Basin, lines: [Line; 2048], long: u64) -> Ran {
+pub fn week(b: &mut Basin, lines: &[Line]) -> Ran {
     let n = b.n;
+    let long = lines.len() as u64;
     let number = judged(b, lines);
-    if number != 5 {
-        return untaken(b, number);
+    if number != Refusal::LineCount.number() {
+        return untaken(number);
     }
     if n == 0 {
-        return untaken(b, 9);
+        return untaken(Refusal::BadBasin.number());
     }
-    if long % n != 0 {
-        return untaken(b, 5);
+    if long % n != 0 || 1000 < long / n {
+        return untaken(Refusal::LineCount.number());
     }
-    if 1000 < long / n {
-        return untaken(b, 5);
-    }
-    steps(untaken(b, 0), lines, long / n)
+    steps(b, lines)
 }
 
 // A step with a wrong count, which gets 9 where the basin does, and otherwise 5.
-fn judged(b: Basin, lines: [Line; 2048]) -> u64 {
-    let given = step::step(b, list::lines_from(lines, 0), b.n % 33 + 1);
-    given.number
+fn judged(b: &Basin, lines: &[Line]) -> u64 {
+    let mut same = *b;
+    calls::step(&mut same, places(lines), b.n % 33 + 1).number
 }
 
-// One step, under the first lines.
-pub fn one(b: Basin, lines: [Line; 2048]) -> Ran {
-    steps(untaken(b, 0), lines, 1)
-}
-
-fn steps(start: Ran, lines: [Line; 2048], count: u64) -> Ran {
-    let mut ran = start;
-    for j in 0..count {
-        ran = turn(ran, lines, j);
+// Steps of N lines each; after a refused one there is none.
+pub fn steps(b: &mut Basin, lines: &[Line]) -> Ran {
+    let n = b.n;
+    let mut ran = untaken(0);
+    for here in lines.chunks((n as usize).max(1)) {
+        go_on(&mut ran, calls::step(b, places(here), n));
+        if ran.number != 0 {
+            break;
+        }
     }
     ran
 }
 
-// After a refused step there is none.
-fn turn(ran: Ran, lines: [Line; 2048], j: u64) -> Ran {
-    if ran.number != 0 {
-        return ran;
+// The first lines in the 32 places of a step.
+fn places(lines: &[Line]) -> [Line; 32] {
+    let mut places = [BLANK; 32];
+    for (place, line) in places.iter_mut().zip(lines) {
+        *place = *line;
     }
-    let b = ran.basin;
-    let at = amounts::times(j, b.n);
-    after(
-        ran,
-        step::step(b, list::lines_from(lines, at as usize), b.n),
-    )
+    places
 }
 
-fn after(ran: Ran, given: Outcome) -> Ran {
-    let sums = ran.report;
-    let last = given.report;
-    let basin = given.basin;
-    if given.number != 0 {
-        return Ran {
-            number: given.number,
-            place: given.place,
-            basin,
-            count: ran.count,
-            report: sums,
-        };
-    }
-    Ran {
-        number: 0,
-        place: 0,
-        basin,
-        count: wrapping_add_u64(ran.count, 1),
-        report: together(sums, last),
+// One more step, or its refusal.
+fn go_on(ran: &mut Ran, given: Stepped) {
+    ran.number = given.number;
+    ran.place = given.place;
+    if given.is_accepted() {
+        ran.count = ran.count.wrapping_add(1);
+        ran.report = together(ran.report, given.report);
     }
 }
 
 fn together(sums: Report, last: Report) -> Report {
     Report {
-        rain: wrapping_add_u64(sums.rain, last.rain),
-        evapotranspiration: wrapping_add_u64(sums.evapotranspiration, last.evapotranspiration),
-        outlet: wrapping_add_u64(sums.outlet, last.outlet),
+        rain: sums.rain.wrapping_add(last.rain),
+        evapotranspiration: sums
+            .evapotranspiration
+            .wrapping_add(last.evapotranspiration),
+        outlet: sums.outlet.wrapping_add(last.outlet),
         content: last.content,
-        estimated: wrapping_add_u64(sums.estimated, last.estimated),
+        estimated: sums.estimated.wrapping_add(last.estimated),
     }
 }
 
-fn untaken(basin: Basin, number: u64) -> Ran {
+fn untaken(number: u64) -> Ran {
     Ran {
         number,
         place: 0,
-        basin,
         count: 0,
         report: ZEROS,
     }

@@ -1,75 +1,59 @@
 // What a week hands back, as a printed row and in a checksum.
 use crate::singly;
 use basin::state::Basin;
-use basin::week::Ran;
-use basin_testing::checksum::fold_basin;
-use basin_testing::weeks;
+use basin_testing::calls::Ran;
+use basin_testing::{calls, checksum};
 use forcing::list::Line;
-use std::io;
-use testing::{checksum, lines};
+use std::{fmt, io};
+use testing::checksum::Checksum;
+use testing::lines::Row;
 
-// The generator, and the checksums of what weeks hand back and of what the same steps do singly.
+// The checksums of what weeks hand back and of what the same steps do singly.
 #[derive(Clone, Copy)]
 pub struct Told {
-    pub x: u64,
-    pub h: u64,
-    pub g: u64,
+    weeks: Checksum,
+    steps: Checksum,
 }
 
-pub fn start(x: u64) -> Told {
-    Told { x, h: 0, g: 0 }
-}
-
-// A week, printed to end a line, and again by single steps; the generator is then x.
-pub fn week(
-    rt: &impl Print,
-    t: Told,
-    b: Basin,
-    lines: [Line; 2048],
-    long: u64,
-    x: u64,
-) -> io::Result<Told> {
-    let ran = weeks::week_of(b, lines, long);
-    print(rt, ran)?;
-    Ok(Told {
-        x,
-        h: fold(t.h, ran),
-        g: fold(t.g, singly::week(b, lines, long)),
-    })
-}
-
-pub fn print(rt: &impl Print, ran: Ran) -> io::Result<()> {
-    let basin = ran.basin;
-    lines::row(rt, &numbers(ran))?;
-    lines::number(rt, fold_basin(0, basin))?;
-    lines::end(rt)
-}
-
-pub fn fold(h: u64, ran: Ran) -> u64 {
-    let basin = ran.basin;
-    fold_basin(checksum::fold_row(h, &numbers(ran)), basin)
-}
-
-fn numbers(ran: Ran) -> [u64; 8] {
-    let report = ran.report;
-    [
-        ran.number,
-        ran.place,
-        ran.count,
-        report.rain,
-        report.evapotranspiration,
-        report.outlet,
-        report.content,
-        report.estimated,
-    ]
-}
-
-// Both checksums, and whether they are the same, to end a line.
-pub fn compared(rt: &impl Print, h: u64, g: u64) -> io::Result<()> {
-    lines::row(rt, &[h, g])?;
-    if h == g {
-        lines::word(rt, b" same\n")
-    } else {
-        lines::word(rt, b" not the same\n")
+impl Told {
+    pub fn new() -> Told {
+        Told {
+            weeks: Checksum::new(),
+            steps: Checksum::new(),
+        }
     }
+
+    // A week, printed to end a line, and again by single steps; the basin is then the one after the week.
+    pub fn week(&mut self, rt: &impl Print, b: &mut Basin, lines: &[Line]) -> io::Result<()> {
+        let mut beside = *b;
+        let ran = calls::week(b, lines);
+        print(rt, &ran, b)?;
+        let singly = singly::week(&mut beside, lines);
+        self.add(&ran, b, &singly, &beside);
+        Ok(())
+    }
+
+    // What both hand back, each with its basin.
+    pub fn add(&mut self, ran: &Ran, b: &Basin, singly: &Ran, beside: &Basin) {
+        self.weeks.add_row(&ran.numbers());
+        checksum::add_basin(&mut self.weeks, b);
+        self.steps.add_row(&singly.numbers());
+        checksum::add_basin(&mut self.steps, beside);
+    }
+}
+
+// Both checksums, and whether they are the same.
+impl fmt::Display for Told {
+    fn fmt<W: fmt::Write>(&self, f: &mut fmt::Formatter<W>) -> fmt::Result {
+        let verdict = if self.weeks == self.steps {
+            "same"
+        } else {
+            "not the same"
+        };
+        write!(f, "{} {} {verdict}", self.weeks, self.steps)
+    }
+}
+
+pub fn print(rt: &impl Print, ran: &Ran, after: &Basin) -> io::Result<()> {
+    println!(rt; "{} {}", Row(&ran.numbers()), checksum::of_basin(after))
 }

@@ -6,16 +6,15 @@
 use basin::state::Basin;
 use basin::step;
 use basin::step::Outcome;
-use basin_testing::checksum::fold_basin;
-use basin_testing::{files, weather, weeks};
-use common::amounts;
+use basin_testing::weather::BLANK;
+use basin_testing::{calls, checksum, weather};
 use curve::capacity;
 use curve::capacity::Roots;
 use forcing::list::Line;
-use std::{env, io};
-use testing::chance::next;
+use std::{env, fmt, io};
+use testing::chance::Chance;
 use testing::choices::Choice;
-use testing::{drafts, lines};
+use testing::drafts::Plan;
 
 #[derive(Clone, Copy)]
 enum Way {
@@ -33,25 +32,36 @@ fn main(rt: HostRuntime) -> io::Result<()> {
             Some(size) => sized(size.as_str()),
             None => 32,
         };
-        return print(&rt, named(word.as_str()), &roots, n, 100);
+        return print(&rt, Way::from(word.as_str()), &roots, n, 100);
     }
-    each(&rt, &roots, 2)?;
-    each(&rt, &roots, 32)
-}
-
-fn each(rt: &impl Print, roots: &Roots, n: u64) -> io::Result<()> {
-    print(rt, Way::Week, roots, n, 1)?;
-    print(rt, Way::Steps, roots, n, 1)?;
-    print(rt, Way::Lent, roots, n, 1)
+    for n in [2, 32] {
+        for way in [Way::Week, Way::Steps, Way::Lent] {
+            print(&rt, way, &roots, n, 1)?;
+        }
+    }
+    Ok(())
 }
 
 // By its first letter.
-fn named(word: &str) -> Way {
-    match word.as_bytes() {
-        [b'w', ..] => Way::Week,
-        [b's', ..] => Way::Steps,
-        [b'l', ..] => Way::Lent,
-        _ => Way::Idle,
+impl From<&str> for Way {
+    fn from(word: &str) -> Way {
+        match word.as_bytes() {
+            [b'w', ..] => Way::Week,
+            [b's', ..] => Way::Steps,
+            [b'l', ..] => Way::Lent,
+            _ => Way::Idle,
+        }
+    }
+}
+
+impl fmt::Display for Way {
+    fn fmt<W: fmt::Write>(&self, f: &mut fmt::Formatter<W>) -> fmt::Result {
+        f.write_str(match self {
+            Way::Idle => "idle",
+            Way::Week => "week",
+            Way::Steps => "steps",
+            Way::Lent => "lent",
+        })
     }
 }
 
@@ -64,102 +74,67 @@ fn sized(word: &str) -> u64 {
 
 // N and the checksum of the basin reached.
 fn print(rt: &impl Print, way: Way, roots: &Roots, n: u64, count: u64) -> io::Result<()> {
-    name(rt, way)?;
-    lines::row(rt, &[n, fold_basin(0, reached(way, roots, n, count))])?;
-    lines::end(rt)
-}
-
-fn name(rt: &impl Print, way: Way) -> io::Result<()> {
-    match way {
-        Way::Idle => lines::word(rt, b"idle"),
-        Way::Week => lines::word(rt, b"week"),
-        Way::Steps => lines::word(rt, b"steps"),
-        Way::Lent => lines::word(rt, b"lent"),
-    }
-}
-
-fn reached(way: Way, roots: &Roots, n: u64, count: u64) -> Basin {
-    let plan = drafts::chain(Choice::Ordinary, n, if n == 2 { 1 } else { 31 });
-    let start = files::started(plan, 1);
-    let b = start.basin;
-    taken(way, roots, b, days(start.x), count)
-}
-
-fn taken(way: Way, roots: &Roots, start: Basin, days: [Line; 64], count: u64) -> Basin {
-    let lines = repeated(days);
-    let mut b = start;
-    for i in 0..count {
-        b = week(way, roots, b, days, lines);
-    }
-    b
-}
-
-fn week(way: Way, roots: &Roots, b: Basin, days: [Line; 64], lines: [Line; 2048]) -> Basin {
-    let count = if b.n == 2 { 1000 } else { 63 };
-    match way {
-        Way::Idle => b,
-        Way::Week => week_of(b, lines),
-        Way::Steps => steps(b, days, count),
-        Way::Lent => steps_with(roots, b, days, count),
-    }
-}
-
-fn week_of(b: Basin, lines: [Line; 2048]) -> Basin {
-    let ran = weeks::week_of(b, lines, if b.n == 2 { 2000 } else { 2016 });
-    ran.basin
-}
-
-fn steps(start: Basin, days: [Line; 64], count: u64) -> Basin {
-    let mut b = start;
-    for j in 0..count {
-        b = after(step::step(b, lines_of(days, j, b.n), b.n));
-    }
-    b
-}
-
-fn steps_with(roots: &Roots, start: Basin, days: [Line; 64], count: u64) -> Basin {
-    let mut b = start;
-    for j in 0..count {
-        b = after(step::step_with(roots, b, lines_of(days, j, b.n), b.n));
-    }
-    b
-}
-
-fn after(given: Outcome) -> Basin {
-    given.basin
-}
-
-// The n lines of step j.
-fn lines_of(days: [Line; 64], j: u64, n: u64) -> [Line; 32] {
-    let first = days[0];
-    let mut here = [first; 32];
-    let at = amounts::times(j, n) % 64;
-    for k in 0..n {
-        let line = days[((at + k % 64) % 64) as usize];
-        here[(k % 32) as usize] = line;
-    }
-    here
+    let b = reached(way, roots, n, count);
+    println!(rt; "{way} {n} {}", checksum::of_basin(&b))
 }
 
 // Ordinary lines, which all weeks repeat.
-fn days(x: u64) -> [Line; 64] {
-    let mut days = [weather::line(0, 0, 0); 64];
-    let mut x = x;
-    for k in 0..64 {
-        let x1 = next(x);
-        let x2 = next(x1);
-        days[k] = weather::line(0, x1, x2);
-        x = x2;
+fn reached(way: Way, roots: &Roots, n: u64, count: u64) -> Basin {
+    let mut chance = Chance::new();
+    let plan = Plan::chain(Choice::Ordinary, n, if n == 2 { 1 } else { 31 });
+    let mut b = calls::started(plan, &mut chance);
+    let days = weather::drawn::<64>(0, &mut chance);
+    let lines = repeated(&days);
+    for _ in 0..count {
+        week(way, roots, &mut b, &days, &lines);
     }
-    days
+    b
 }
 
-fn repeated(days: [Line; 64]) -> [Line; 2048] {
-    let first = days[0];
-    let mut lines = [first; 2048];
-    for k in 0..2048 {
-        let line = days[k % 64];
-        lines[k] = line;
+fn repeated(days: &[Line; 64]) -> [Line; 2048] {
+    let mut lines = [BLANK; 2048];
+    for (here, day) in lines.iter_mut().zip(days.iter().cycle()) {
+        *here = *day;
     }
     lines
+}
+
+fn week(way: Way, roots: &Roots, b: &mut Basin, days: &[Line; 64], lines: &[Line; 2048]) {
+    let (count, long) = if b.n == 2 { (1000, 2000) } else { (63, 2016) };
+    match way {
+        Way::Idle => {}
+        Way::Week => {
+            calls::week(b, &lines[..long]);
+        }
+        Way::Steps => steps(b, days, count, step::step),
+        Way::Lent => steps(
+            b,
+            days,
+            count,
+            |b, here, n| step::step_with(roots, b, here, n),
+        ),
+    }
+}
+
+fn steps<F: Fn(Basin, [Line; 32], u64) -> Outcome>(
+    b: &mut Basin,
+    days: &[Line; 64],
+    count: u64,
+    step: F,
+)
+    requires { F.IsAlwaysCallable step }
+{
+    for j in 0..count {
+        *b = step(*b, lines_of(days, j, b.n), b.n).basin;
+    }
+}
+
+// The n lines of step j.
+fn lines_of(days: &[Line; 64], j: u64, n: u64) -> [Line; 32] {
+    let mut here = [BLANK; 32];
+    let at = (j.wrapping_mul(n) % 64) as usize;
+    for (k, place) in here.iter_mut().take(n as usize).enumerate() {
+        *place = days[(at + k) % 64];
+    }
+    here
 }
