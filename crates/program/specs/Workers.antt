@@ -1,19 +1,27 @@
 -- What the private functions require and answer: no part of document 01.
-use Rattle.std.specs.Prelude.{◌≡◌, Option, List, [], ◌∷◌, ◌++◌, ℕ, ◌+◌, ◌*◌, ◌≤◌, ◌<◌, length, take}
+use Rattle.std.specs.Prelude.{◌≡◌, Result, Ok, Err, Option, List, [], ◌∷◌, ◌++◌, ℕ, ◌+◌, ◌*◌, ◌≤◌, ◌<◌, length, take}
 use Rattle.std.specs.Io.KnownBytes.{Appends}
+use Rattle.common.specs.declared.refusal.Refused.{Refused}
+use Rattle.common.specs.Refusals.{number_of}
 use Rattle.basin.specs.declared.state.Basin.{Basin}
+use Rattle.basin.specs.declared.step.Report.{Report}
 use Rattle.basin.specs.File.{load_call}
 use Rattle.basin.specs.Calls.{Call, last_basin}
 use Rattle.program.specs.declared.Ended.{Ended}
 use Rattle.program.specs.declared.Ended.TheVariants.{Failed}
 use Rattle.program.specs.Ended.{Ends}
-use Rattle.program.specs.Print.{decimal, blank, newline}
+use Rattle.program.specs.Print.{decimal, blank, newline, accepted_text, refused_text}
 use Rattle.program.specs.Print.{short_text, part_text, step_bytes, whole_steps, part_bytes, calls_of, steps_text, run_text, printed}
 
 -- the rest of a line: numbers with a blank before each, and the line's end
 abbrev pub numbers_text : List ℕ → List ℕ
 numbers_text [] = newline
 numbers_text (n ∷ ns) = blank ++ (decimal n ++ numbers_text ns)
+
+-- the line of a step that came out like this
+abbrev pub outcome_text : ℕ → Result Report Refused → List ℕ
+outcome_text step (Ok report) = accepted_text step report
+outcome_text step (Err refused) = refused_text step (number_of refused.why) refused.place
 
 -- Lines that may be written, the first of them as line `first`: all that is printed where the load is refused, those of steps, that of a part
 -- step.

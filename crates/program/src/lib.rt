@@ -11,13 +11,14 @@ mod text;
 ghost use Rattle.std.specs.Prelude.{◌≡◌, List, ℕ};
 ghost use Rattle.std.specs.Io.{ReadsAtMost};
 ghost use Rattle.std.specs.Io.KnownBytes.{Appends};
-ghost use Rattle.basin.specs.File.{load_call};
+ghost use Rattle.common.specs.Refusals.{number_of};
+ghost use Rattle.basin.specs.File.{as_loaded, load_call};
 ghost use Rattle.program.specs.Print.{load_text, printed};
 ghost use Rattle.program.specs.Ended.{status_of};
 ghost use Rattle.program.specs.Workers.{Prints, StartOf};
 
 use basin::file;
-use basin::file::Loaded;
+use common::refusal::Refused;
 use print::Streams;
 use std::io::ErrorKind;
 use std::rt::Files;
@@ -63,11 +64,11 @@ pub fn account<F: Files, W: io::Write, E: io::Write>(
     let mut out = Output::new();
     let start = read_start(files, said, basin, &mut bytes);
     let size = start.unwrap_or(0);
-    let loaded = file::load(&bytes[..size]);
     let mut streams = Streams { to, said };
-    if loaded.number != 0 {
-        return refuse(&mut streams, &mut out, start, &bytes[..size], loaded);
-    }
+    let mut basin = match file::load(&bytes[..size]) {
+        Ok(basin) => basin,
+        Err(refused) => return refuse(&mut streams, &mut out, start, &bytes[..size], refused),
+    };
     let mut file = match open(files, forcing) {
         Ok(file) => file,
         Err(error) => {
@@ -75,8 +76,7 @@ pub fn account<F: Files, W: io::Write, E: io::Write>(
             return Ended::NotAll;
         }
     };
-    let mut given = run::first_given(loaded.basin);
-    run::run(&mut file, &mut streams, &mut given, &mut out)
+    run::run(&mut file, &mut streams, &mut basin, &mut out)
 }
 
 // Opens a file to be read. The library's paths are text: one that is none can't be opened.
@@ -120,19 +120,19 @@ fn refuse<W: io::Write, E: io::Write>(
     out: &mut Output,
     start: Result<usize, Ended>,
     bytes: &[u8],
-    loaded: Loaded,
+    refused: Refused,
 ) -> Ended
-    requires { (loaded ≡ load_call bytes.now) × (loaded.number ≡ 0 → ⊥) }
+    requires { as_loaded (Err refused) ≡ load_call bytes.now }
     ensures same_reference { streams.new.to.ghost_name ≡ streams.old.to.ghost_name }
-    ensures text { out.new ≡ load_text loaded.number loaded.place }
+    ensures text { out.new ≡ load_text (number_of refused.why) refused.place }
     ensures printed { (result ≡ Ended.Failed → ⊥)
-        → Appends (W.contents streams.old.to.now) (W.contents streams.new.to.now) (load_text loaded.number loaded.place) }
+        → Appends (W.contents streams.old.to.now) (W.contents streams.new.to.now) (load_text (number_of refused.why) refused.place) }
     ensures whole { (file forcing : List ℕ) → StartOf file bytes.now → out.new ≡ printed file forcing }
 {
-    out.set_load(loaded.number, loaded.place);
+    out.set_load(refused);
     let is_printed = streams.print(out, 1);
     if start.is_ok() {
-        say::refused_load(streams.said, bytes, loaded.number, loaded.place);
+        say::refused_load(streams.said, bytes, refused);
     }
     if is_printed {
         start.err().unwrap_or(Ended::NotAll)

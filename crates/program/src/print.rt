@@ -2,12 +2,14 @@
 // digits, and 9 besides.
 ghost use Rattle.std.specs.Prelude.{◌≡◌, ◌++◌, ◌+◌, ◌≤◌, ◌<◌, ◌^◌, length, IsTrue};
 ghost use Rattle.std.specs.Io.KnownBytes.{Appends};
-ghost use Rattle.program.specs.Print.{load_text, step_text, short_text};
-ghost use Rattle.program.specs.Workers.{Lines};
+ghost use Rattle.common.specs.Refusals.{number_of};
+ghost use Rattle.program.specs.Print.{load_text, short_text};
+ghost use Rattle.program.specs.Workers.{Lines, outcome_text};
 
 use crate::text::{Output, ROOM};
 use crate::{calls, say};
-use basin::step::Outcome;
+use basin::step::Report;
+use common::refusal::Refused;
 use std::io;
 
 // Where lines are printed, and where it is said what failed.
@@ -46,11 +48,11 @@ fn lines_in(bytes: &[u8]) -> u64
 
 impl Output {
     // Holds the line of a refused load, and nothing besides.
-    pub fn set_load(&mut self, number: u64, place: u64)
-        ensures { self.new ≡ load_text number place }
+    pub fn set_load(&mut self, refused: Refused)
+        ensures { self.new ≡ load_text (number_of refused.why) refused.place }
     {
         self.clear();
-        self.put_words("load", &[number, place]);
+        self.put_words("load", &[refused.why.number(), refused.place]);
     }
 
     // Holds the line of a part step of so many bytes, and nothing besides.
@@ -62,24 +64,24 @@ impl Output {
     }
 
     // Puts the line of step `step`, which came out like this.
-    pub fn put_step(&mut self, step: u64, outcome: &Outcome)
+    pub fn put_step(&mut self, step: u64, outcome: &Result<Report, Refused>)
         requires { length self.old + 129 ≤ ROOM }
-        ensures text { self.new ≡ self.old ++ step_text step outcome.now.number outcome.now.place outcome.now.report }
+        ensures text { self.new ≡ self.old ++ outcome_text step outcome.now }
         ensures len { length self.new ≤ length self.old + 129 }
     {
         self.put_number(step);
-        if outcome.number == 0 {
-            let report = outcome.report;
-            let numbers = [
-                report.rain,
-                report.evapotranspiration,
-                report.outlet,
-                report.content,
-                report.estimated,
-            ];
-            self.put_words(" ok", &numbers);
-        } else {
-            self.put_words(" refused", &[outcome.number, outcome.place]);
+        match outcome {
+            Ok(report) => {
+                let numbers = [
+                    report.rain,
+                    report.evapotranspiration,
+                    report.outlet,
+                    report.content,
+                    report.estimated,
+                ];
+                self.put_words(" ok", &numbers);
+            }
+            Err(refused) => self.put_words(" refused", &[refused.why.number(), refused.place]),
         }
     }
 }

@@ -10,8 +10,6 @@ use crate::print::Streams;
 use crate::text::Output;
 use crate::{Ended, calls, say};
 use basin::state::Basin;
-use basin::step;
-use basin::step::{Outcome, Report};
 use curve::capacity;
 use forcing::file;
 use std::io;
@@ -22,38 +20,19 @@ const STEPS: u64 = 64;
 // More reads than a run has time for.
 const READS: u64 = 36028797018963968; // 2^55
 
-// What the first step goes on from: the basin, with nothing reported.
-pub fn first_given(basin: Basin) -> Outcome
-    ensures { result.basin ≡ basin }
-{
-    Outcome {
-        number: 0,
-        place: 0,
-        basin,
-        report: Report {
-            rain: 0,
-            evapotranspiration: 0,
-            outlet: 0,
-            content: 0,
-            estimated: 0,
-        },
-    }
-}
-
-// Takes the steps that are read to their end, prints their lines, and answers how that ends. What is given becomes the outcome of the
-// last step, and what was printed last is left in the output.
+// Takes the steps that are read to their end, prints their lines, and answers how that ends. What was printed last is left in the output.
 pub fn run<R: io::Read, W: io::Write, E: io::Write>(
     from: &mut R,
     streams: &mut Streams<'_, W, E>,
-    given: &mut Outcome,
+    basin: &mut Basin,
     out: &mut Output,
 ) -> Ended
-    requires { (1 ≤ given.old.basin.n) × (given.old.basin.n ≤ 32) }
+    requires { (1 ≤ basin.old.n) × (basin.old.n ≤ 32) }
     ensures same_reference { streams.new.to.ghost_name ≡ streams.old.to.ghost_name }
-    ensures run { RunOf given.old.basin result given.new.basin out.new
+    ensures run { RunOf basin.old result basin.new out.new
         (W.contents streams.old.to.now) (W.contents streams.new.to.now) }
 {
-    let n = given.basin.n;
+    let n = basin.n;
     let size = (file::LINE_BYTES * n) as usize;
     let whole = STEPS as usize * size;
     let mut input = [0u8; 24576];
@@ -70,7 +49,7 @@ pub fn run<R: io::Read, W: io::Write, E: io::Write>(
         };
         let end = kept + count;
         let first = done + 1;
-        let steps = take_steps(&input[..end], out, given, n, done);
+        let steps = take_steps(&input[..end], out, basin, n, done);
         done += steps;
         let used = steps as usize * size;
         input.copy_within(used..end, 0);
@@ -114,9 +93,9 @@ fn end_run<W: io::Write, E: io::Write>(
 
 // Takes the whole steps of bytes, puts their lines into the output in place of what is there, and answers how many steps these are.
 // Before them `done` steps were taken.
-fn take_steps(bytes: &[u8], out: &mut Output, given: &mut Outcome, n: u64, done: u64) -> u64
+fn take_steps(bytes: &[u8], out: &mut Output, basin: &mut Basin, n: u64, done: u64) -> u64
     requires { (1 ≤ n) × (n ≤ 32) × (length bytes.now ≤ 64 * step_bytes n) × (done < 2 ^ 62) }
-    ensures { Stepped given.old.basin n done bytes.now given.new.basin result out.new }
+    ensures { Stepped basin.old n done bytes.now basin.new result out.new }
 {
     let size = (file::LINE_BYTES * n) as usize;
     let roots = capacity::printed_roots();
@@ -124,9 +103,8 @@ fn take_steps(bytes: &[u8], out: &mut Output, given: &mut Outcome, n: u64, done:
     let mut steps: u64 = 0;
     for words in bytes.chunks_exact(size) {
         steps += 1;
-        let lines = file::lines_of(words, n);
-        *given = step::step_with(&roots, given.basin, lines, n);
-        out.put_step(done + steps, given);
+        let outcome = basin.step_with(&roots, file::lines_of(words, n), n);
+        out.put_step(done + steps, &outcome);
     }
     steps
 }

@@ -3,6 +3,7 @@ ghost use Rattle.std.specs.Prelude.{◌+◌, ◌*◌, ◌≤◌, ◌<◌, ◌^�
 
 use basin::reach;
 use common::bytes::word;
+use common::refusal::{Refusal, Refused};
 use std::fmt::InlineText;
 use std::{fmt, io};
 use subbasin::record;
@@ -10,12 +11,13 @@ use subbasin::record::NAME_BYTES;
 
 const SUB_WORDS: u64 = record::WORDS as u64;
 
-// A load of bytes that was refused with number and place.
-pub fn refused_load<W: io::Write>(to: &mut W, bytes: &[u8], number: u64, place: u64) {
+// A load of bytes that was refused.
+pub fn refused_load<W: io::Write>(to: &mut W, bytes: &[u8], refused: Refused) {
     let (n, m) = (word(bytes, 0), word(bytes, 1));
-    let _ = match number {
-        1 => writeln!(to, "basin.bin: has fewer than 8 bytes"),
-        3 => {
+    let place = refused.place;
+    let _ = match refused.why {
+        Refusal::FewBytes => writeln!(to, "basin.bin: has fewer than 8 bytes"),
+        Refusal::Length => {
             let wanted = 4 * (2 + SUB_WORDS * n + reach::WORDS * m);
             writeln!(
                 to,

@@ -8,7 +8,7 @@ use Rattle.std.specs.Io.KnownBytes.{Appends}
 use Rattle.std.proofs.KnownBytes.{Appends-nil}
 use Rattle.basin.specs.declared.step.Report.{Report}
 use Rattle.program.specs.Print.{decimal, load, ok, refused, short, blank}
-use Rattle.program.specs.Print.{load_text, accepted_text, refused_text, step_text, short_text, part_text}
+use Rattle.program.specs.Print.{load_text, accepted_text, refused_text, short_text, part_text}
 use Rattle.program.specs.Workers.{numbers_text}
 
 module _ {out out₁ : List ℕ} (empty : out ≡ []) where
@@ -20,18 +20,18 @@ module _ {out out₁ : List ℕ} (empty : out ≡ []) where
   unfolding load_text
   load_put number place e = rw (e, empty) (simp append_assoc)
 
-module _ (out : List ℕ) {out₁ out₂ : List ℕ} (step number place : ℕ) (report : Report) (put : out₁ ≡ out ++ decimal step) where
-  pub accepted_put : number ≡ 0
+module _ (out : List ℕ) {out₁ out₂ : List ℕ} (step : ℕ) (put : out₁ ≡ out ++ decimal step) where
+  pub accepted_put : (report : Report)
       → out₂ ≡ out₁ ++ ((blank ++ ok) ++ numbers_text (report.rain ∷ report.evapotranspiration ∷ report.outlet ∷ report.content ∷ report.estimated ∷ []))
-      → out₂ ≡ out ++ step_text step number place report
-  unfolding accepted_text step_text
-  accepted_put e f = rw (eq-eqb number 0 e, f, put) (simp append_assoc)
+      → out₂ ≡ out ++ accepted_text step report
+  unfolding accepted_text
+  accepted_put report e = rw (e, put) (simp append_assoc)
 
-  pub refused_put : (number ≡ 0 → ⊥)
+  pub refused_put : (number place : ℕ)
       → out₂ ≡ out₁ ++ ((blank ++ refused) ++ numbers_text (number ∷ place ∷ []))
-      → out₂ ≡ out ++ step_text step number place report
-  unfolding refused_text step_text
-  refused_put h f = rw (ne_eqb number 0 h, f, put) (simp append_assoc)
+      → out₂ ≡ out ++ refused_text step number place
+  unfolding refused_text
+  refused_put number place e = rw (e, put) (simp append_assoc)
 
 -- a part step's line where there is one, and nothing where there is none
 pub no_part : {count : ℕ} → count ≡ 0 → [] ≡ part_text count

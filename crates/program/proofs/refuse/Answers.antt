@@ -1,16 +1,18 @@
 -- `program::refuse` meets its contract: the line of a refused load is all that is printed. Assumes nothing.
-use Rattle.std.proofs.Common.{◌∙◌, []}
+use Rattle.std.proofs.Common.{ap, ◌∙◌, [], arith}
+use Rattle.basin.specs.File.{Loaded}
+use Rattle.common.proofs.Refusals.{number_some}
 use Rattle.program.specs.Workers.{of_load}
 use Rattle.program.proofs.run.PrintedLaws.{printed_all, printed_start}
 use Rattle.program.proofs.refuse.Goals as goal
 
 pub print-is_printed-requires-clause-lines : goal.print-is_printed-requires-clause-lines
 print-is_printed-requires-clause-lines g c =
-    let refused = c.requires in
-    of_load _ [] (rw refused.0 at refused.1) (c.set_load.ensures ∙ printed_all _ [] refused.0 refused.1)
+    of_load _ [] (λ z. omega (arith, z, ap (λ (l : Loaded). l.number) c.requires, number_some c.args.refused.why))
+    (c.set_load.ensures ∙ printed_all _ [] _ c.requires)
 
 pub returns-then-is_printed-clause-whole : goal.returns-then-is_printed-clause-whole
-returns-then-is_printed-clause-whole g c = printed_start c.requires c.set_load.ensures
+returns-then-is_printed-clause-whole g c = printed_start _ c.requires c.set_load.ensures
 
 pub returns-else-is_printed-clause-whole : goal.returns-else-is_printed-clause-whole
-returns-else-is_printed-clause-whole g c = printed_start c.requires c.set_load.ensures
+returns-else-is_printed-clause-whole g c = printed_start _ c.requires c.set_load.ensures

@@ -7,9 +7,12 @@ use native.Mathlib.Omega.{arith}
 use lib.ListN.{length, drop, length-append, length-drop}
 use lib.Seq.{drop-nil, drop-drop}
 use borrow.Author.Tests.{eq-eqb, ne_eqb}
+use Rattle.std.proofs.Common.{Ok, Err}
+use Rattle.common.specs.declared.refusal.Refused.{Refused}
+use Rattle.common.specs.Refusals.{number_of}
+use Rattle.common.proofs.Refusals.{number_some}
 use Rattle.basin.specs.declared.state.Basin.{Basin}
-use Rattle.basin.specs.declared.file.Loaded.{Loaded}
-use Rattle.basin.specs.File.{load_call}
+use Rattle.basin.specs.File.{Loaded, as_loaded, load_call}
 use Rattle.basin.specs.Calls.{last_basin}
 use Rattle.basin.proofs.file.LoadedLaws.{start_loads, accepted_within, words_loaded, loaded_n}
 use Rattle.program.specs.Print.{step_bytes, calls_in, whole_steps, part_bytes, calls_of, load_text, steps_text, part_text, run_text, printed}
@@ -87,27 +90,23 @@ unfolding printed
 printed_refused basin forcing bad = rw (ne_eqb (load_call basin).number 0 bad)
 
 -- the line of a refused load is all that is printed
-pub printed_all : (basin forcing : List ℕ) {loaded : Loaded} → loaded ≡ load_call basin → (loaded.number ≡ 0 → ⊥)
-    → load_text loaded.number loaded.place ≡ printed basin forcing
-printed_all basin forcing e bad = ap (λ (l : Loaded). load_text l.number l.place) e ∙ sym (printed_refused basin forcing (rw e at bad))
+pub printed_all : (basin forcing : List ℕ) (e : Refused) → as_loaded (Err e) ≡ load_call basin → load_text (number_of e.why) e.place ≡ printed basin forcing
+printed_all basin forcing e is =
+    let bad : (load_call basin).number ≡ 0 → ⊥ = λ z. omega (arith, z, ap (λ (l : Loaded). l.number) is, number_some e.why) in
+    ap (λ (l : Loaded). load_text l.number l.place) is ∙ sym (printed_refused basin forcing bad)
 
 -- and so it is of every file with this start
-pub printed_start : {bytes : List ℕ} {loaded : Loaded} {out : List ℕ} → (loaded ≡ load_call bytes) × (loaded.number ≡ 0 → ⊥)
-    → out ≡ load_text loaded.number loaded.place
+pub printed_start : {bytes : List ℕ} (e : Refused) {out : List ℕ} → as_loaded (Err e) ≡ load_call bytes → out ≡ load_text (number_of e.why) e.place
     → (file forcing : List ℕ) → StartOf file bytes → out ≡ printed file forcing
-printed_start {loaded = loaded} refused text file forcing start =
-    let whole : loaded ≡ load_call file = refused.0 ∙ ap load_call start ∙ start_loads 4096 (omega arith) file in
-    text ∙ printed_all file forcing whole refused.1
+printed_start e is text file forcing start = text ∙ printed_all file forcing e (is ∙ ap load_call start ∙ start_loads 4096 (omega arith) file)
 
-pub loaded_some : (basin : List ℕ) {loaded : Loaded} → loaded ≡ load_call basin → loaded.number ≡ 0 → 1 ≤ loaded.basin.n
-loaded_some basin e good = (loaded_n ((accepted_within basin e).0 good) (words_loaded basin e good)).0
+pub loaded_some : (basin : List ℕ) {b : Basin} → as_loaded (Ok b) ≡ load_call basin → 1 ≤ b.n
+loaded_some basin is = (loaded_n ((accepted_within basin is).0 refl) (words_loaded basin is refl)).0
 
 -- of a load that is accepted the steps are printed
-pub printed_accepted : (basin forcing : List ℕ) {loaded : Loaded} → loaded ≡ load_call basin → loaded.number ≡ 0
-    → run_text loaded.basin forcing ≡ printed basin forcing
+pub printed_accepted : (basin forcing : List ℕ) {b : Basin} → as_loaded (Ok b) ≡ load_call basin → run_text b forcing ≡ printed basin forcing
 unfolding printed
-printed_accepted basin forcing e good =
-    ap (λ (l : Loaded). run_text l.basin forcing) e ∙ sym (rw (eq-eqb (load_call basin).number 0 (rw e at good)) refl)
+printed_accepted basin forcing is = ap (λ (l : Loaded). run_text l.basin forcing) is ∙ sym (rw (eq-eqb (load_call basin).number 0 (ap (λ (l : Loaded). l.number) (sym is))) refl)
 
 -- and nothing where there are none
 pub run_nothing : (b : Basin) → 1 ≤ b.n → run_text b [] ≡ []
@@ -122,4 +121,4 @@ pub printed_by_reads : (basin : List ℕ) → (load_call basin).number ≡ 0 →
 unfolding run_text printed
 printed_by_reads basin good reads =
     rw (eq-eqb (load_call basin).number 0 good)
-    (reads_text_lem (load_call basin).basin.n (loaded_some basin refl good) (load_call basin).basin reads)
+    (reads_text_lem (load_call basin).basin.n (loaded_n ((accepted_within basin refl).0 good) (words_loaded basin refl good)).0 (load_call basin).basin reads)

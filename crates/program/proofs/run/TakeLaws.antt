@@ -10,12 +10,30 @@ use lib.Seq.{drop-drop, take-append_seam, drop-append_seam}
 use Rattle.forcing.specs.declared.list.Line.{Line}
 use Rattle.forcing.specs.File.{lines_of}
 use Rattle.basin.specs.declared.state.Basin.{Basin}
-use Rattle.basin.specs.declared.step.Outcome.{Outcome}
+use Rattle.basin.specs.declared.step.Report.{Report}
+use Rattle.common.specs.declared.refusal.Refused.{Refused}
+use Rattle.common.specs.Refusals.{number_of}
+use Rattle.common.proofs.Refusals.{number_some}
+use Rattle.std.proofs.Common.{Result, Ok, Err}
+use borrow.Author.Tests.{ne_eqb}
 use Rattle.basin.specs.Calls.{last_basin}
-use Rattle.basin.specs.Step.{step_call}
-use Rattle.program.specs.Print.{step_bytes, call_at, calls_in, whole_steps, calls_of, step_text, steps_text}
-use Rattle.program.specs.Workers.{Stepped}
+use Rattle.basin.specs.Step.{Outcome, as_outcome, step_call}
+use Rattle.program.specs.Print.{step_bytes, call_at, calls_in, whole_steps, calls_of, accepted_text, step_text, steps_text}
+use Rattle.program.specs.Workers.{outcome_text, Stepped}
 use Rattle.program.proofs.run.CallsLaws.{last_append, text_append, calls_length}
+
+-- the line of an outcome, as the definition has it
+abbrev line_of : Basin → ℕ → Result Report Refused → List ℕ
+line_of b step r = step_text step (as_outcome b r).number (as_outcome b r).place (as_outcome b r).report
+
+outcome_line : (b : Basin) (step : ℕ) (r : Result Report Refused) → outcome_text step r ≡ line_of b step r
+unfolding step_text accepted_text
+outcome_line b step (Ok report) = refl
+outcome_line b step (Err e) = sym (rw (ne_eqb (number_of e.why) 0 (λ z. omega (arith, z, number_some e.why))) refl)
+
+outcome_basin : (b : Basin) (r : Result Report Refused) → (as_outcome b r).basin ≡ b
+outcome_basin b (Ok report) = refl
+outcome_basin b (Err e) = refl
 
 -- i steps of the bytes are taken, from basin b, and their lines, of at most 129 bytes each, are put; the other bytes are left
 pub record Taking (b : Basin) (n done : ℕ) (bytes : List ℕ) (i : ℕ) (left : List ℕ) (basin : Basin) (out : List ℕ) : Type 0 where
@@ -63,14 +81,16 @@ module _ {b : Basin} {n done : ℕ} {bytes : List ℕ} {i : ℕ} {left : List �
         ∙ ap (λ (l : List Line). step_call basin l n) (is-lines ∙ ap (λ (l : List ℕ). lines_of l n) words_are)
         ∙ ap (λ (x : Basin). step_call x (call_at n bytes i).lines n) t.basin_is
 
-    pub take_turn : {lines : List Line} {o : Outcome} {out' : List ℕ}
+    pub take_turn : {lines : List Line} {then : Basin} (r : Result Report Refused) {out' : List ℕ}
         → lines ≡ lines_of words n
-        → o ≡ step_call basin lines n
+        → as_outcome then r ≡ step_call basin lines n
         → length out' ≤ length out + 129
-        → out' ≡ out ++ step_text (done + (i + 1)) o.number o.place o.report
-        → Taking b n done bytes (i + 1) left' o.basin out'
+        → out' ≡ out ++ outcome_text (done + (i + 1)) r
+        → Taking b n done bytes (i + 1) left' then out'
     unfolding last_basin call_at calls_in steps_text
-    take_turn {o = o} is-lines is-step short put =
+    take_turn {then = then} r is-lines is-step short told =
+        let o = as_outcome then r in
+        let put = told ∙ ap (λ (l : List ℕ). out ++ l) (outcome_line then (done + (i + 1)) r) in
         let calls = calls_in n bytes i in
         let next = call_at n bytes i in
         let line : ℕ → Outcome → List ℕ = λ step x. step_text step x.number x.place x.report in
@@ -80,7 +100,7 @@ module _ {b : Basin} {n done : ℕ} {bytes : List ℕ} {i : ℕ} {left : List �
           left_is = rw (add-one i) left_after;
           taken_most = omega (arith, one_more, suc-mul i (step_bytes n));
           out_most = omega (arith, t.out_most);
-          basin_is = rw (add-one i) (ap (λ (x : Outcome). x.basin) is ∙ sym (last_append (next ∷ []) b calls));
+          basin_is = rw (add-one i) (sym (outcome_basin then r) ∙ ap (λ (x : Outcome). x.basin) is ∙ sym (last_append (next ∷ []) b calls));
           lines_are =
               rw (add-one i)
               (put

@@ -9,7 +9,7 @@ invariant-loop-reads g l = record {
   input_long : length l.input ≡ 24576;
   done_most : l.done ≤ 64 * l._reads;
   lines : List ℕ;
-  running : Running l.initial.given.basin l.n l.input l.kept l.done l.given.basin lines;
+  running : Running l.initial.basin l.n l.input l.kept l.done l.basin lines;
   same_reference : l.streams.to.ghost_name ≡ l.initial.streams.to.ghost_name;
   printed : Appends (g.W.Write.contents l.initial.streams.to.now) (g.W.Write.contents l.streams.to.now) lines;
 }

@@ -25,7 +25,7 @@ loop-words-preserved c =
     record {
       size_is = c.in-Some.ensures.steps.0 ∙ at.size_is;
       taking =
-          take_turn at.taking c.requires.0 c.requires.2 _ _ next.0 (next.1 ∙ at.size_is) c.lines_of-lines.ensures c.step_with.ensures.answers
+          take_turn at.taking c.requires.0 c.requires.2 _ _ next.0 (next.1 ∙ at.size_is) _ c.lines_of.ensures c.step_with-outcome.ensures.answers
           c.put_step.ensures.len
           c.put_step.ensures.text;
     }

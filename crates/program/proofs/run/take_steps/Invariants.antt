@@ -8,5 +8,5 @@ use Rattle.program.proofs.run.take_steps.Given as goal
 abbrev pub invariant-loop-words : goal.invariant-loop-words
 invariant-loop-words l = record {
   size_is : chunks_exact_size l.words-iterator ≡ step_bytes l.n;
-  taking : Taking l.initial.given.basin l.n l.done l.bytes l.steps (chunks_exact_rest l.words-iterator) l.given.basin l.out;
+  taking : Taking l.initial.basin l.n l.done l.bytes l.steps (chunks_exact_rest l.words-iterator) l.basin l.out;
 }

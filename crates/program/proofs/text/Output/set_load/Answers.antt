@@ -3,4 +3,4 @@ use Rattle.program.proofs.print.PrintLaws.{load_put}
 use Rattle.program.proofs.text.Output.set_load.Goals as goal
 
 pub returns : goal.returns
-returns c = load_put c.clear.ensures c.args.number c.args.place c.put_words.ensures.text
+returns c = load_put c.clear.ensures _ _ (rw c.number.ensures at c.put_words.ensures.text)
