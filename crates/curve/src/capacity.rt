@@ -121,6 +121,7 @@ impl Inside {
 
     // The interval from lo to hi is narrowed: with the share hi at most w is held, with lo more. The first trial is a guess. From it the
     // trials go 1 share on, 1 again, 2, 4 and so on, and where that leaves the interval to its middle. Any share between lo and hi would do.
+    #[tactic(auto, using(crate::proofs::capacity::HeldLaws::held_at_one, crate::proofs::capacity::HeldLaws::held_at_zero, crate::proofs::capacity::ShareLaws::narrowed, crate::proofs::capacity::ShareLaws::least_share_full))]
     fn least_share(self, roots: &Roots, w: u64) -> u64
         requires { w ≤ self.curve.c }
         ensures { (result ≡ least_share self.curve.c self.curve.e w) × (result ≤ one) }

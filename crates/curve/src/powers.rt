@@ -45,6 +45,7 @@ fn whole_of(t: Share, k: u64) -> Share
 }
 
 // x times r over 65,536, where e mod 16 holds the bit b.
+#[tactic(auto, unfolding(crate::specs::Capacity::part))]
 fn part_of(e: u64, b: u64, r: Share, x: Share) -> Share
     requires { 0 < b }
     ensures { result ≡ part e b r x }
