@@ -77,7 +77,9 @@ impl Curve {
     fn is_inside(self) -> bool
         ensures { IsTrue result ↔ CurveIn self.c self.m self.e }
     {
-        (1..=MOST_C).contains(&self.c) && (1..=MOST_M).contains(&self.m) && (LEAST_E..=MOST_E).contains(&self.e)
+        (1..=MOST_C).contains(&self.c)
+            && (1..=MOST_M).contains(&self.m)
+            && (LEAST_E..=MOST_E).contains(&self.e)
     }
 }
 
@@ -95,7 +97,12 @@ impl Inside {
         ensures { result ≡ held self.curve.c self.curve.m self.curve.e a }
     {
         let m = self.curve.m;
-        self.held_at(roots, Share { parts: (m - a) * ONE / m })
+        self.held_at(
+            roots,
+            Share {
+                parts: (m - a) * ONE / m,
+            },
+        )
     }
 
     // What is held below an ordinate with the share t above it.
@@ -144,13 +151,21 @@ impl Inside {
                     break at;
                 }
                 hi = at;
-                at = if far < hi - lo { hi - far } else { (lo + hi) / 2 };
+                at = if far < hi - lo {
+                    hi - far
+                } else {
+                    (lo + hi) / 2
+                };
             } else {
                 if hi - at <= 1 {
                     break hi;
                 }
                 lo = at;
-                at = if far < hi - lo { lo + far } else { (lo + hi) / 2 };
+                at = if far < hi - lo {
+                    lo + far
+                } else {
+                    (lo + hi) / 2
+                };
             }
         };
         t

@@ -3,7 +3,7 @@
 use mathlib.Core.Path.{◌≡◌, refl, sym, ap, subst, ◌∙◌}
 use mathlib.Core.Bool.{Bool, true, ◌&&◌}
 use mathlib.Core.List.{List}
-use Prim.Native.Nat.{ℕ, suc, ◌+◌, ◌-◌, ◌*◌, ◌/◌, ◌^◌, ◌≤◌, ◌<◌}
+use Prim.Native.Nat.{ℕ, suc, ◌+◌, ◌-◌, ◌*◌, ◌/◌, ◌≤◌, ◌<◌}
 use native.Mathlib.Nat.{mul-le-mul, mul-le-mul_right, div-mul-le_self, le-div_iff_mul-le}
 use native.Mathlib.Omega.{arith}
 use lib.Dec.{leb}
@@ -113,6 +113,3 @@ root_before t r h l =
     let positive = square_positive (t * one) r l in
     let back : r ≡ r - 1 + 1 = omega (arith, positive) in
     root_unique t (r - 1) h (subst (λ (x : ℕ). t * one < x * x) back l)
-
-pub square_fits : (r : ℕ) → r < 2 ^ 32 → r * r < 2 ^ 64
-square_fits r h = omega (arith, mul-le-mul {n₁ = r} {m₁ = r} {n₂ = 4294967295} {m₂ = 4294967295} (omega arith) (omega arith))
