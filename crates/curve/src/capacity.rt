@@ -97,12 +97,8 @@ impl Inside {
         ensures { result ≡ held self.curve.c self.curve.m self.curve.e a }
     {
         let m = self.curve.m;
-        self.held_at(
-            roots,
-            Share {
-                parts: (m - a) * ONE / m,
-            },
-        )
+        let parts = (m - a) * ONE / m;
+        self.held_at(roots, Share { parts })
     }
 
     // What is held below an ordinate with the share t above it.
@@ -128,7 +124,7 @@ impl Inside {
 
     // The interval from lo to hi is narrowed: with the share hi at most w is held, with lo more. The first trial is a guess. From it the
     // trials go 1 share on, 1 again, 2, 4 and so on, and where that leaves the interval to its middle. Any share between lo and hi would do.
-    #[tactic(auto, using(crate::proofs::capacity::HeldLaws::held_at_one, crate::proofs::capacity::HeldLaws::held_at_zero, crate::proofs::capacity::ShareLaws::narrowed, crate::proofs::capacity::ShareLaws::least_share_full))]
+    #[tactic(auto, using(crate::proofs::capacity::ShareLaws::search_laws))]
     fn least_share(self, roots: &Roots, w: u64) -> u64
         requires { w ≤ self.curve.c }
         ensures { (result ≡ least_share self.curve.c self.curve.e w) × (result ≤ one) }
@@ -143,7 +139,7 @@ impl Inside {
         let mut hi = ONE;
         let mut at = guesses::share_of(power, self.curve.e);
         let mut step = 1;
-        let t = loop {
+        loop {
             let far = (step + 1) / 2;
             step = (step * 2).min(ONE);
             if self.held_at(roots, Share { parts: at }) <= w {
@@ -167,7 +163,6 @@ impl Inside {
                     (lo + hi) / 2
                 };
             }
-        };
-        t
+        }
     }
 }

@@ -6,7 +6,7 @@ use crate::roots::FindRoot;
 use crate::share::Share;
 
 // A root is taken only where a lower bit of e needs it.
-#[tactic(auto, using(crate::proofs::capacity::PowerLaws::all_bits, crate::proofs::capacity::PowerLaws::bits_2, crate::proofs::capacity::PowerLaws::bits_4, crate::proofs::capacity::PowerLaws::bits_8, crate::proofs::capacity::PowerLaws::no_bits))]
+#[tactic(auto, using(crate::proofs::capacity::PowerLaws::bits))]
 pub fn power_of<R: FindRoot>(roots: &R, t: Share, e: u64) -> Share
     ensures { result ≡ power t e }
 {

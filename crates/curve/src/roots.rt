@@ -44,7 +44,7 @@ pub fn printed_roots() -> Roots
 
 // The first guess is the mean of t and 65,536, and a guess whose square is too great goes down.
 impl FindRoot for Newton {
-    #[tactic(auto, using(crate::proofs::capacity::RootLaws::square_positive, crate::proofs::capacity::RootLaws::newton_above, crate::proofs::capacity::RootLaws::newton_less, crate::proofs::capacity::RootLaws::root_unique, crate::proofs::capacity::RootLaws::newton_begins))]
+    #[tactic(auto, using(crate::proofs::capacity::RootLaws::newton))]
     fn root_of(&self, t: Share) -> Share {
         let n = t.parts * ONE;
         let mut r = (ONE + t.parts) / 2;
@@ -57,7 +57,7 @@ impl FindRoot for Newton {
 
 // The table leads to the root or to one more; 65,536 has no entry.
 impl FindRoot for Printed {
-    #[tactic(auto, using(crate::proofs::capacity::RootLaws::root_one, crate::proofs::capacity::RootLaws::root_le_one, crate::proofs::roots::LeadLaws::leads_some, crate::proofs::roots::LeadLaws::leads_to, crate::proofs::roots::LeadLaws::one_too_great, crate::proofs::roots::LeadLaws::not_too_great))]
+    #[tactic(auto, using(crate::proofs::roots::LeadLaws::led))]
     fn root_of(&self, t: Share) -> Share {
         if t.parts == ONE {
             return t;
@@ -96,7 +96,6 @@ impl FindRoot for Roots {
 }
 
 // Where a table leads, if anywhere.
-#[tactic(auto, using(crate::proofs::capacity::RootLaws::root_half))]
 fn lead(roots: &Roots, t: u64) -> Option<u64>
     requires { t < one }
     ensures { Leads roots.now t result }
@@ -111,7 +110,6 @@ fn lead(roots: &Roots, t: u64) -> Option<u64>
 }
 
 // Newton's step from eight times the entry of t / 64.
-#[tactic(auto, using(crate::proofs::roots::LeadLaws::entry_least, crate::proofs::roots::LeadLaws::step_least, crate::proofs::roots::LeadLaws::step_most))]
 fn near(roots: &Roots, t: u64) -> Option<u64>
     requires { (4096 ≤ t) × (t < one) }
     ensures { Leads roots.now t result }

@@ -100,3 +100,5 @@ module _ (t e : ℕ) where
 
   pub no_bits : e % 16 ≡ 0 → power t e ≡ whole t (e / 16)
   no_bits h = bits_8 (omega arith) ∙ part_out e 8 _ _ (omega arith)
+
+pub ruleset bits = (all_bits, bits_2, bits_4, bits_8, no_bits)

@@ -99,3 +99,6 @@ pub newton_less : (n r : ℕ) → 0 < r → n < r * r → (r + n / r) / 2 < r
 newton_less n r z h =
     let q : n / r < r = (div-lt_iff_lt-mul z).1 h in
     omega arith
+
+-- what Newton's steps from the first guess need
+pub ruleset newton = (root_unique, square_positive, newton_above, newton_begins, newton_less)

@@ -67,3 +67,6 @@ module _ (c e w : ℕ) where
 -- with nothing above an ordinate all is held
 pub least_share_full : (c e : ℕ) → least_e ≤ e → least_share c e c ≡ 0
 least_share_full c e h = least_share_is c e c 0 (omega arith) (omega (arith, held_at_zero c e h)) (λ l. absurd (omega arith))
+
+-- what the search of a least share needs
+pub ruleset search_laws = (held_at_one, held_at_zero, narrowed, least_share_full)

@@ -16,7 +16,7 @@ use Rattle.common.proofs.Loops.{table_in}
 use Rattle.common.proofs.Tables.{passes, passes_at, table_is}
 use Rattle.curve.specs.Capacity.{root, printed_roots}
 use Rattle.curve.specs.Workers.{Leads}
-use Rattle.curve.proofs.capacity.RootLaws.{root_square, root_above, root_unique, root_least, root_most, square_positive, newton_above}
+use Rattle.curve.proofs.capacity.RootLaws.{root_one, root_le_one, root_square, root_above, root_unique, root_least, root_most, square_positive, newton_above}
 
 -- the table's rule: r is the greatest with r × r ≤ k × 65,536
 abbrev pub right : ℕ → ℕ → Bool
@@ -113,3 +113,6 @@ root_before t r h l =
     let positive = square_positive (t * one) r l in
     let back : r ≡ r - 1 + 1 = omega (arith, positive) in
     root_unique t (r - 1) h (subst (λ (x : ℕ). t * one < x * x) back l)
+
+-- what the way by the printed table needs
+pub ruleset led = (root_one, root_le_one, leads_some, leads_to, one_too_great, not_too_great)
