@@ -77,7 +77,9 @@ impl Curve {
     fn is_inside(self) -> bool
         ensures { IsTrue result ↔ CurveIn self.c self.m self.e }
     {
-        (1..=MOST_C).contains(&self.c) && (1..=MOST_M).contains(&self.m) && (LEAST_E..=MOST_E).contains(&self.e)
+        (1..=MOST_C).contains(&self.c)
+            && (1..=MOST_M).contains(&self.m)
+            && (LEAST_E..=MOST_E).contains(&self.e)
     }
 }
 
@@ -95,7 +97,8 @@ impl Inside {
         ensures { result ≡ held self.curve.c self.curve.m self.curve.e a }
     {
         let m = self.curve.m;
-        self.held_at(roots, Share { parts: (m - a) * ONE / m })
+        let parts = (m - a) * ONE / m;
+        self.held_at(roots, Share { parts })
     }
 
     // What is held below an ordinate with the share t above it.
@@ -121,6 +124,7 @@ impl Inside {
 
     // The interval from lo to hi is narrowed: with the share hi at most w is held, with lo more. The first trial is a guess. From it the
     // trials go 1 share on, 1 again, 2, 4 and so on, and where that leaves the interval to its middle. Any share between lo and hi would do.
+    #[tactic(auto, using(crate::proofs::capacity::ShareLaws::search_laws))]
     fn least_share(self, roots: &Roots, w: u64) -> u64
         requires { w ≤ self.curve.c }
         ensures { (result ≡ least_share self.curve.c self.curve.e w) × (result ≤ one) }
@@ -135,7 +139,7 @@ impl Inside {
         let mut hi = ONE;
         let mut at = guesses::share_of(power, self.curve.e);
         let mut step = 1;
-        let t = loop {
+        loop {
             let far = (step + 1) / 2;
             step = (step * 2).min(ONE);
             if self.held_at(roots, Share { parts: at }) <= w {
@@ -143,15 +147,22 @@ impl Inside {
                     break at;
                 }
                 hi = at;
-                at = if far < hi - lo { hi - far } else { (lo + hi) / 2 };
+                at = if far < hi - lo {
+                    hi - far
+                } else {
+                    (lo + hi) / 2
+                };
             } else {
                 if hi - at <= 1 {
                     break hi;
                 }
                 lo = at;
-                at = if far < hi - lo { lo + far } else { (lo + hi) / 2 };
+                at = if far < hi - lo {
+                    lo + far
+                } else {
+                    (lo + hi) / 2
+                };
             }
-        };
-        t
+        }
     }
 }

@@ -6,7 +6,7 @@ use crate::roots::FindRoot;
 use crate::share::Share;
 
 // A root is taken only where a lower bit of e needs it.
-#[tactic(auto, using(crate::proofs::capacity::PowerLaws::all_bits, crate::proofs::capacity::PowerLaws::bits_2, crate::proofs::capacity::PowerLaws::bits_4, crate::proofs::capacity::PowerLaws::bits_8, crate::proofs::capacity::PowerLaws::no_bits))]
+#[tactic(auto, using(crate::proofs::capacity::PowerLaws::bits))]
 pub fn power_of<R: FindRoot>(roots: &R, t: Share, e: u64) -> Share
     ensures { result ≡ power t e }
 {
@@ -45,6 +45,7 @@ fn whole_of(t: Share, k: u64) -> Share
 }
 
 // x times r over 65,536, where e mod 16 holds the bit b.
+#[tactic(auto, unfolding(crate::specs::Capacity::part))]
 fn part_of(e: u64, b: u64, r: Share, x: Share) -> Share
     requires { 0 < b }
     ensures { result ≡ part e b r x }

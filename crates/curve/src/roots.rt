@@ -44,6 +44,7 @@ pub fn printed_roots() -> Roots
 
 // The first guess is the mean of t and 65,536, and a guess whose square is too great goes down.
 impl FindRoot for Newton {
+    #[tactic(auto, using(crate::proofs::capacity::RootLaws::newton))]
     fn root_of(&self, t: Share) -> Share {
         let n = t.parts * ONE;
         let mut r = (ONE + t.parts) / 2;
@@ -56,6 +57,7 @@ impl FindRoot for Newton {
 
 // The table leads to the root or to one more; 65,536 has no entry.
 impl FindRoot for Printed {
+    #[tactic(auto, using(crate::proofs::roots::LeadLaws::led))]
     fn root_of(&self, t: Share) -> Share {
         if t.parts == ONE {
             return t;
@@ -71,6 +73,7 @@ impl FindRoot for Printed {
 
 // By a table that is lent. Where that misleads, which the squares tell, it is by the printed one.
 impl FindRoot for Roots {
+    #[tactic(auto, using(crate::proofs::capacity::RootLaws::root_unique, crate::proofs::roots::LeadLaws::root_before))]
     fn root_of(&self, t: Share) -> Share {
         if t.parts < ONE {
             let n = t.parts * ONE;
@@ -119,6 +122,7 @@ fn near(roots: &Roots, t: u64) -> Option<u64>
 }
 
 // An entry, where it is not above those of the printed table.
+#[tactic(auto, using(crate::proofs::roots::LeadLaws::entry_most, crate::proofs::roots::LeadLaws::printed_at))]
 fn entry(roots: &Roots, k: u64) -> Option<u64>
     requires { k < 1024 }
     ensures { Enters roots.now k result }

@@ -1,9 +1,8 @@
 -- The calls of the curve: accepted inside their limits, and refused outside; and a rise made of two of them. Assumes nothing.
 use mathlib.Core.Path.{◌≡◌, refl, sym, ap, ◌∙◌}
-use mathlib.Core.Bool.{Bool, true, false, not, true≢false, ◌&&◌}
+use mathlib.Core.Bool.{true, false, ◌&&◌}
 use Prim.Native.Nat.{ℕ, ◌+◌, ◌≤◌, min}
 use native.Mathlib.Omega.{arith}
-use borrow.Author.Tests.{not-false}
 use Rattle.std.specs.Prelude.{Result, Ok, Err, IsOk}
 use Rattle.common.specs.declared.refusal.Refusal.{Refusal}
 use Rattle.common.specs.Shares.{one}
@@ -65,16 +64,6 @@ curve_limits c m e h =
     let m-in = within_limits 1 m most_m d.1 in
     let e-in = within_limits least_e e most_e b.1 in
     record { c_least = c-in.0; c_most = c-in.1; m_least = m-in.0; m_most = m-in.1; e_least = e-in.0; e_most = e-in.1 }
-
-pub curve_out : (c m e : ℕ) → (CurveIn c m e → ⊥) → curve_in c m e ≡ false
-curve_out c m e n = refuted (curve_in c m e) (λ h. n (curve_limits c m e h))
-
--- what the test of `outside` says
-pub outside_yes : (c m e : ℕ) {b : Bool} → b ≡ not (curve_in c m e) → b ≡ true → CurveIn c m e → ⊥
-outside_yes c m e {b} t y h = true≢false (sym y ∙ t ∙ ap not (curve_in_lem c m e h))
-
-pub outside_no : (c m e : ℕ) {b : Bool} → b ≡ not (curve_in c m e) → b ≡ false → CurveIn c m e
-outside_no c m e t n = curve_limits c m e (not-false (curve_in c m e) (sym t ∙ n))
 
 module _ (c m e : ℕ) where
   point_in : (x hi : ℕ) → CurveIn c m e → x ≤ hi → curve_in c m e && within 0 x hi ≡ true

@@ -2,7 +2,7 @@
 use mathlib.Core.Path.{◌≡◌, refl, ap, ◌∙◌}
 use Prim.Native.Nat.{ℕ, ◌+◌, ◌-◌, ◌*◌, ◌/◌, ◌≤◌, ◌<◌, min}
 use native.Mathlib.Nat.{le_trans, mul-le-mul_left, min-eq_left, min-eq_right}
-use native.Mathlib.Nat.{mul-div_right, zero-div, div-le_of_le-mul, div-mul-le_self, le-div_iff_mul-le}
+use native.Mathlib.Nat.{mul-div_right, zero-div, div-mul-le_self, le-div_iff_mul-le}
 use native.Mathlib.Decide.{dec_le}
 use native.Mathlib.Omega.{arith}
 use lib.Dec.{leb}
@@ -16,10 +16,6 @@ share_above_mono : (m : ℕ) {a b : ℕ} → 0 < m → a ≤ b → share_above m
 unfolding share_above
 share_above_mono m {a} {b} z h =
     (le-div_iff_mul-le z).1 (le_trans (div-mul-le_self ((m - b) * one) m) (omega (arith, h)))
-
-pub share_above_le_one : (m a : ℕ) → 0 < m → share_above m a ≤ one
-unfolding share_above
-share_above_le_one m a z = div-le_of_le-mul m (omega arith)
 
 sub_zero_mul : (m : ℕ) → (m - 0) * one ≡ m * one
 sub_zero_mul m = omega arith

@@ -1,7 +1,7 @@
 -- Power: it grows with t, is 0 at 0 and 65,536 at 65,536, and so never more. Assumes nothing.
 use mathlib.Core.Path.{◌≡◌, refl, ◌∙◌}
 use mathlib.Core.Bool.{Bool, true, false, cond}
-use Prim.Native.Nat.{ℕ, zero, suc, ◌+◌, ◌*◌, ◌/◌, ◌%◌, ◌≤◌, ◌<◌}
+use Prim.Native.Nat.{ℕ, zero, suc, ◌+◌, ◌/◌, ◌%◌, ◌≤◌, ◌<◌}
 use native.Mathlib.Nat.{le_refl, mul-le-mul}
 use native.Mathlib.Numerals.{add-one}
 use native.Mathlib.Omega.{arith}
@@ -11,9 +11,6 @@ use Rattle.common.specs.Shares.{one}
 use Rattle.common.specs.Loops.{run}
 use Rattle.curve.specs.Capacity.{root, by, whole, part, power, least_e}
 use Rattle.curve.proofs.capacity.RootLaws.{root_mono, root_one}
-
-pub shares_le : {x r : ℕ} → x ≤ one → r ≤ one → x * r ≤ one * one
-shares_le {x} {r} h k = mul-le-mul {n₁ = x} {m₁ = r} {n₂ = one} {m₂ = one} h k
 
 by_mono : {x y r s : ℕ} → x ≤ y → r ≤ s → by x r ≤ by y s
 by_mono {x} {y} {r} {s} h k = omega (arith, mul-le-mul {n₁ = x} {m₁ = r} {n₂ = y} {m₂ = s} h k)
@@ -103,3 +100,5 @@ module _ (t e : ℕ) where
 
   pub no_bits : e % 16 ≡ 0 → power t e ≡ whole t (e / 16)
   no_bits h = bits_8 (omega arith) ∙ part_out e 8 _ _ (omega arith)
+
+pub ruleset bits = (all_bits, bits_2, bits_4, bits_8, no_bits)

@@ -1,7 +1,7 @@
 -- The root: it is the greatest, it is unique, it grows with t; and Newton's step towards it from above. Assumes nothing.
-use mathlib.Core.Path.{◌≡◌, sym}
+use mathlib.Core.Path.{◌≡◌, sym, subst}
 use Prim.Native.Nat.{ℕ, zero, suc, ◌+◌, ◌-◌, ◌*◌, ◌/◌, ◌≤◌, ◌<◌}
-use native.Mathlib.Nat.{mul-le-mul, mul-le-mul_left, lt-mul-div-succ, div-lt_iff_lt-mul}
+use native.Mathlib.Nat.{mul-div_cancel, mul-le-mul, mul-le-mul_left, lt-mul-div-succ, div-lt_iff_lt-mul}
 use native.Mathlib.Decide.{dec_le}
 use native.Mathlib.Omega.{arith}
 use lib.Dec.{leb}
@@ -88,8 +88,17 @@ newton_above n r h =
     let below : n < r * (q + 1) = lt-mul-div-succ n h in
     omega (arith, mean r (q + 1), mul-le-mul {n₁ = r + (q + 1)} {m₁ = r + (q + 1)} {n₂ = 2 * (s + 1)} {m₂ = 2 * (s + 1)} (omega arith) (omega arith))
 
+-- so does the first guess, the mean of t and 65,536, which is Newton's step from 65,536
+pub newton_begins : (t : ℕ) → t * one < ((one + t) / 2 + 1) * ((one + t) / 2 + 1)
+newton_begins t =
+    subst (λ (q : ℕ). t * one < ((one + q) / 2 + 1) * ((one + q) / 2 + 1)) (mul-div_cancel t {n = one} (omega arith))
+    (newton_above (t * one) one (omega arith))
+
 -- and from one whose square is above n it goes down
 pub newton_less : (n r : ℕ) → 0 < r → n < r * r → (r + n / r) / 2 < r
 newton_less n r z h =
     let q : n / r < r = (div-lt_iff_lt-mul z).1 h in
     omega arith
+
+-- what Newton's steps from the first guess need
+pub ruleset newton = (root_unique, square_positive, newton_above, newton_begins, newton_less)

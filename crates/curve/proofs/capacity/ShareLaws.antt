@@ -7,8 +7,8 @@ use lib.Dec.{leb}
 use borrow.Author.Tests.{le-leb, lt-leb, leb-true, leb-false}
 use Rattle.common.specs.Shares.{one}
 use Rattle.common.proofs.Smallest.{smallest_le, smallest_holds, smallest_below, smallest_is}
-use Rattle.curve.specs.Capacity.{share_above, held_at, ordinate, least_share, last_above}
-use Rattle.curve.proofs.capacity.HeldLaws.{held_at_mono, held_at_one, held_is, ordinate_is}
+use Rattle.curve.specs.Capacity.{least_e, share_above, held_at, ordinate, least_share, last_above}
+use Rattle.curve.proofs.capacity.HeldLaws.{held_at_mono, held_at_zero, held_at_one, held_is, ordinate_is}
 
 module _ (c e w : ℕ) where
   least_share_le : least_share c e w ≤ one
@@ -63,3 +63,10 @@ module _ (c e w : ℕ) where
 
       short : a < m → share_above m (a + 1) < t
       short l = (div-lt_iff_lt-mul z).1 (omega (arith, up_le, l))
+
+-- with nothing above an ordinate all is held
+pub least_share_full : (c e : ℕ) → least_e ≤ e → least_share c e c ≡ 0
+least_share_full c e h = least_share_is c e c 0 (omega arith) (omega (arith, held_at_zero c e h)) (λ l. absurd (omega arith))
+
+-- what the search of a least share needs
+pub ruleset search_laws = (held_at_one, held_at_zero, narrowed, least_share_full)

@@ -3,7 +3,7 @@
 use mathlib.Core.Path.{◌≡◌, refl, sym, ap, subst, ◌∙◌}
 use mathlib.Core.Bool.{Bool, true, ◌&&◌}
 use mathlib.Core.List.{List}
-use Prim.Native.Nat.{ℕ, suc, ◌+◌, ◌-◌, ◌*◌, ◌/◌, ◌^◌, ◌≤◌, ◌<◌}
+use Prim.Native.Nat.{ℕ, suc, ◌+◌, ◌-◌, ◌*◌, ◌/◌, ◌≤◌, ◌<◌}
 use native.Mathlib.Nat.{mul-le-mul, mul-le-mul_right, div-mul-le_self, le-div_iff_mul-le}
 use native.Mathlib.Omega.{arith}
 use lib.Dec.{leb}
@@ -16,7 +16,7 @@ use Rattle.common.proofs.Loops.{table_in}
 use Rattle.common.proofs.Tables.{passes, passes_at, table_is}
 use Rattle.curve.specs.Capacity.{root, printed_roots}
 use Rattle.curve.specs.Workers.{Leads}
-use Rattle.curve.proofs.capacity.RootLaws.{root_square, root_above, root_unique, root_least, root_most, square_positive, newton_above}
+use Rattle.curve.proofs.capacity.RootLaws.{root_one, root_le_one, root_square, root_above, root_unique, root_least, root_most, square_positive, newton_above}
 
 -- the table's rule: r is the greatest with r × r ≤ k × 65,536
 abbrev pub right : ℕ → ℕ → Bool
@@ -114,5 +114,5 @@ root_before t r h l =
     let back : r ≡ r - 1 + 1 = omega (arith, positive) in
     root_unique t (r - 1) h (subst (λ (x : ℕ). t * one < x * x) back l)
 
-pub square_fits : (r : ℕ) → r < 2 ^ 32 → r * r < 2 ^ 64
-square_fits r h = omega (arith, mul-le-mul {n₁ = r} {m₁ = r} {n₂ = 4294967295} {m₂ = 4294967295} (omega arith) (omega arith))
+-- what the way by the printed table needs
+pub ruleset led = (root_one, root_le_one, leads_some, leads_to, one_too_great, not_too_great)
