@@ -1,8 +1,7 @@
 -- What the private functions require and answer: no part of document 01.
-use Rattle.std.specs.Prelude.{ℕ, suc, ◌+◌, ◌-◌, ◌*◌, ◌/◌, ◌%◌, ◌≤◌, cond, ◌&&◌, List, [], ◌∷◌, eqb, ltb}
+use Rattle.std.specs.Prelude.{ℕ, ◌+◌, ◌-◌, ◌*◌, ◌/◌, ◌%◌, ◌≤◌, cond, ltb}
 use Rattle.common.specs.Shares.{one}
 use Rattle.common.specs.Loops.{run}
-use Rattle.common.specs.Limits.{within, Word}
 use Rattle.subbasin.specs.declared.record.Parameters.{Parameters}
 use Rattle.subbasin.specs.declared.soil.Layers.{Layers}
 use Rattle.subbasin.specs.declared.slices.Sliced.{Sliced}
@@ -11,14 +10,6 @@ use Rattle.subbasin.specs.declared.walk.Walk.{Walk}
 use Rattle.subbasin.specs.Soil.{wm, mm, rb, gain}
 use Rattle.subbasin.specs.FreeWater.{ms}
 use Rattle.subbasin.specs.Slices.{most_slice}
-
--- of words that are judged one after the other, n of the first k were inside up to the first outside: and with a word more
-unfoldable pub further : ℕ → ℕ → ℕ → ℕ → ℕ → ℕ
-further n k lo x hi = cond (eqb n k && within lo x hi) (k + 1) n
-
-abbrev pub leading : ℕ → ℕ → List Word → ℕ
-leading n k [] = n
-leading n k (w ∷ ws) = leading (further n k w.lo w.value w.hi) (suc k) ws
 
 -- the words that evapotranspiration and runoff read
 pub record SoilIn (p : Parameters) : Type 0 where

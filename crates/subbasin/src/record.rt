@@ -1,7 +1,5 @@
 // A sub-basin's record: the words of the basin file, the lag line and the channel store; and its limits.
-ghost use Rattle.std.specs.Prelude.{◌≡◌, ◌-◌, ◌≤◌, ◌<◌, IfSome};
-ghost use Rattle.common.specs.Shares.{one};
-ghost use Rattle.subbasin.specs.Workers.{further};
+ghost use Rattle.std.specs.Prelude.{◌≡◌, ◌<◌, IfSome};
 ghost use Rattle.subbasin.specs.Record.{word_count, words_of, of_words, first_outside, number_of, record_in, is_blank};
 
 use crate::lag;
@@ -152,31 +150,33 @@ impl SubBasin {
     {
         let p = &self.fixed;
         let w = &self.contents;
-        let mut n = 0;
-        n = next(n, 0, 1, p.area, 5000);
-        n = next(n, 1, 0, p.k, 131072);
-        n = next(n, 2, 0, p.um, 100000);
-        n = next(n, 3, 1, p.lm, 200000);
-        n = next(n, 4, 0, p.dm, 200000);
-        n = next(n, 5, 0, p.c, 65535);
-        n = next(n, 6, 16, p.bn, 32);
-        n = next(n, 7, 0, p.im, 32768);
-        n = next(n, 8, 1, p.sm, 100000);
-        n = next(n, 9, 16, p.xn, 48);
-        n = next(n, 10, 0, p.ki, ONE);
-        n = next(n, 11, 0, p.kg, ONE.saturating_sub(p.ki));
-        n = next(n, 12, 0, p.ci, 65535);
-        n = next(n, 13, 0, p.cg, 65535);
-        n = next(n, 14, 0, p.cs, 65535);
-        n = next(n, 15, 0, self.line.lag, 15);
-        n = next(n, 16, 0, p.reach, m);
-        n = next(n, 17, 0, w.wu, p.um);
-        n = next(n, 18, 0, w.wl, p.lm);
-        n = next(n, 19, 0, w.wd, p.dm);
-        n = next(n, 20, 0, w.g, p.sm);
-        n = next(n, 21, 0, w.vi, v);
-        n = next(n, 22, 0, w.vg, v);
-        (n < WORDS).then_some(n)
+        // the least that each may be, the word, and the most
+        let words = [
+            (1, p.area, 5000),
+            (0, p.k, 131072),
+            (0, p.um, 100000),
+            (1, p.lm, 200000),
+            (0, p.dm, 200000),
+            (0, p.c, 65535),
+            (16, p.bn, 32),
+            (0, p.im, 32768),
+            (1, p.sm, 100000),
+            (16, p.xn, 48),
+            (0, p.ki, ONE),
+            (0, p.kg, ONE.saturating_sub(p.ki)),
+            (0, p.ci, 65535),
+            (0, p.cg, 65535),
+            (0, p.cs, 65535),
+            (0, self.line.lag, 15),
+            (0, p.reach, m),
+            (0, w.wu, p.um),
+            (0, w.wl, p.lm),
+            (0, w.wd, p.dm),
+            (0, w.g, p.sm),
+            (0, w.vi, v),
+            (0, w.vg, v),
+        ];
+        words.iter().position(|&(lo, x, hi)| x < lo || hi < x)
     }
 
     // Whether 9 allows the record, with REACH up to m.
@@ -200,20 +200,4 @@ impl SubBasin {
         }
         amounts::up_to(0, &self.line.waiting, 0) && amounts::up_to(0, &self.words(), 0)
     }
-}
-
-// One more than k, where the k words before are inside and x is from lo to hi.
-#[tactic(auto, unfolding(crate::specs::Workers::further))]
-fn next(n: usize, k: usize, lo: u64, x: u64, hi: u64) -> usize
-    requires { k ≤ 64 }
-    ensures { result ≡ further n k lo x hi }
-{
-    if n == k {
-        if lo <= x {
-            if x <= hi {
-                return k + 1;
-            }
-        }
-    }
-    n
 }

@@ -1,72 +1,65 @@
 -- What the limits of a record say, both ways. Assumes nothing.
-use mathlib.Core.Path.{◌≡◌, refl, sym, ◌∙◌}
-use mathlib.Core.Bool.{Bool, true, false, cond, ◌&&◌, and-true, and-false, true≢false}
+use mathlib.Core.Path.{◌≡◌, refl, sym, ap, ◌∙◌}
+use mathlib.Core.Bool.{Bool, true, false, cond, not, ◌&&◌, ◌||◌, and-true, and-false, true≢false}
 use mathlib.Core.List.{List, [], ◌∷◌}
 use Rattle.std.specs.Prelude.{Option, Some, None, IfSome}
-use Rattle.std.specs.Bool.{then_some}
+use Rattle.std.specs.List.{position, position_or_len}
 use Rattle.std.specs.Option.{is_some}
-use Prim.Native.Nat.{ℕ, suc, ◌+◌, ◌≤◌, ◌<◌}
-use native.Mathlib.Numerals.{add-one}
+use Prim.Native.Nat.{ℕ, ◌≤◌, ◌<◌}
+use native.Mathlib.Decide.{dec_le}
 use native.Mathlib.Omega.{arith}
-use lib.Dec.{leb, ltb, eqb}
+use lib.Dec.{leb, ltb}
 use lib.ListN.{length, drop}
 use lib.Seq.{take_all}
-use borrow.Author.Tests.{le-leb, lt-leb, leb-true, ltb-false, eq-eqb, eqb-true}
+use borrow.Author.Tests.{le-leb, lt-leb, leb-true, le-ltb, lt-ltb, ltb-false}
 use Rattle.common.specs.Limits.{within, Word, words_in, first_out}
 use Rattle.common.specs.Amounts.{all_up_to}
-use Rattle.common.proofs.Limits.{both, parts, refuted, within_in, within_limits, Within, words_limits, words_in_lem, within_join, first_none, first_all, first_le}
+use Rattle.common.proofs.Limits.{both, parts, refuted, Within, words_limits, words_in_lem, within_join, first_none, first_all, first_le}
 use Rattle.common.proofs.amounts.AmountLaws.{UpTo, all_limits, all_in, listed_take}
 use Rattle.subbasin.specs.declared.record.Parameters.{Parameters}
 use Rattle.subbasin.specs.declared.record.Contents.{Contents}
 use Rattle.subbasin.specs.declared.record.SubBasin.{SubBasin}
 use Rattle.subbasin.specs.Lag.{in_use, most_waiting, line_in}
-use Rattle.subbasin.specs.Workers.{further, leading}
 use Rattle.subbasin.specs.Record.{words, first_outside, number_of, words_of, of_words, word_count, most_slow, most_stored, record_in, is_blank, blank_sub}
 
--- ---- the first word outside, as it is looked for
+-- ---- the first word outside, as it is looked for: a place among triples of least, value and most
 
-further_on : (n k : ℕ) (w : Word) → n ≡ k → w.lo ≤ w.value → w.value ≤ w.hi → further n k w.lo w.value w.hi ≡ suc k
-unfolding further
-further_on n k w e l h = rw (eq-eqb n k e, within_in w.lo w.value w.hi l h) (add-one k)
+abbrev pub triples : List Word → List (ℕ × ℕ × ℕ)
+triples [] = []
+triples (w ∷ ws) = (w.lo, w.value, w.hi) ∷ triples ws
 
-pub further_not : (n k lo x hi : ℕ) → (n ≡ k → lo ≤ x → x ≤ hi → ⊥) → n ≡ further n k lo x hi
-unfolding further
-further_not n k lo x hi ne =
-    sym (rw (refuted (eqb n k && within lo x hi) (λ t.
-    let b = parts (eqb n k) (within lo x hi) t in
-    let l = within_limits lo x hi b.1 in
-    ne (eqb-true n k b.0) l.0 l.1)))
+abbrev pub out_of_range : ℕ × ℕ × ℕ → Bool
+out_of_range t = ltb t.1 t.0 || ltb t.2 t.1
 
-leading_stays : (n k : ℕ) (ws : List Word) → n < k → leading n k ws ≡ n
-leading_stays n k [] h = refl
-leading_stays n k (w ∷ ws) h =
-    rw (← (further_not n k w.lo w.value w.hi (λ e l m. omega arith))) (leading_stays n (suc k) ws (omega arith))
-
-pub leading_first : (k : ℕ) (ws : List Word) → leading k k ws ≡ k + first_out ws
-unfolding first_out
-leading_first k [] = omega arith
-leading_first k (w ∷ ws) = go (within w.lo w.value w.hi) refl (leading_first (suc k) ws) (leading_stays k (suc k) ws (omega arith))
+in_range : (lo x hi : ℕ) → not (ltb x lo || ltb hi x) ≡ within lo x hi
+in_range lo x hi = go (dec_le lo x) (dec_le x hi)
   where
-    go : (b : Bool) → within w.lo w.value w.hi ≡ b → leading (suc k) (suc k) ws ≡ suc k + first_out ws → leading k (suc k) ws ≡ k
-        → leading (further k k w.lo w.value w.hi) (suc k) ws ≡ k + cond b (suc (first_out ws)) 0
-    go true t on stays =
-        let l = within_limits w.lo w.value w.hi t in
-        rw (further_on k k w refl l.0 l.1) (omega arith)
-    go false t on stays =
-        rw (← (further_not k k w.lo w.value w.hi (λ e l h. true≢false (sym (within_in w.lo w.value w.hi l h) ∙ t)))) (omega arith)
+    go : Dec (lo ≤ x) → Dec (x ≤ hi) → not (ltb x lo || ltb hi x) ≡ within lo x hi
+    go (yes l) (yes h) = rw (le-ltb x lo l, le-ltb hi x h, le-leb lo x l, le-leb x hi h)
+    go (yes l) (no h) = rw (le-ltb x lo l, lt-ltb hi x (omega arith), le-leb lo x l, lt-leb x hi (omega arith))
+    go (no l) _ = rw (lt-ltb x lo (omega arith), lt-leb lo x (omega arith))
+
+first_place : (ws : List Word) → position_or_len out_of_range (triples ws) ≡ first_out ws
+unfolding first_out
+first_place [] = refl
+first_place (w ∷ ws) = rw (in_range w.lo w.value w.hi, first_place ws) (ap (λ (k : ℕ). cond (within w.lo w.value w.hi) k 0) (omega arith))
 
 -- and as its answer: a number, or none where none is outside
 module _ (m v : ℕ) (s : SubBasin) where
-  pub first_most : first_outside m v s ≤ word_count
+  first_most : first_outside m v s ≤ word_count
   unfolding first_outside
   first_most = first_le (words m v s)
 
-  pub numbered : {n : ℕ} {r : Option ℕ} → n ≡ first_outside m v s → r ≡ then_some (ltb n word_count) n → number_of r ≡ first_outside m v s
-  numbered {n} e h = rw (h, ← e) (go (ltb n word_count) refl)
+  numbered_by : (n : ℕ) → n ≡ first_outside m v s → number_of (cond (ltb n word_count) (Some n) None) ≡ first_outside m v s
+  numbered_by n e = go (ltb n word_count) refl
     where
-      go : (b : Bool) → ltb n word_count ≡ b → number_of (then_some b n) ≡ n
-      go true t = refl
-      go false t = omega (arith, first_most, ltb-false n word_count t)
+      go : (b : Bool) → ltb n word_count ≡ b → number_of (cond b (Some n) None) ≡ first_outside m v s
+      go true t = e
+      go false t = omega (arith, e, first_most, ltb-false n word_count t)
+
+  pub numbered : {r : Option ℕ} → r ≡ position out_of_range (triples (words m v s)) → number_of r ≡ first_outside m v s
+  unfolding first_outside
+  numbered h = rw h (numbered_by _ (first_place (words m v s)))
 
 pub some_number : (r : Option ℕ) → IfSome r (λ k. k < word_count) → true ≡ is_some r → number_of r ≡ word_count → ⊥
 some_number (Some k) h t e = omega (arith, h)
