@@ -1,11 +1,15 @@
 // The calls of `basin` and `week`, and what they hand back as numbers.
+use basin::file;
+use basin::reach::Reach;
 use basin::state::Basin;
-use basin::step::Report;
-use basin::{file, step};
+use basin::step::{Report, ZEROS};
 use forcing::list::Line;
+use subbasin::record;
+use subbasin::record::SubBasin;
 use testing::chance::Chance;
 use testing::drafts::Plan;
 use testing::files::File;
+use testing::refusals;
 
 // Number and place, which are 0 where a call is accepted, and the basin loaded.
 #[derive(Clone, Copy)]
@@ -17,8 +21,18 @@ pub struct Loaded {
 pub fn load(file: &File) -> Loaded {
     let given = file::load(file.as_slice());
     Loaded {
-        told: [given.number, given.place],
-        basin: given.basin,
+        told: refusals::told(&given),
+        basin: given.unwrap_or(empty()),
+    }
+}
+
+// The basin that a refused load stands for.
+fn empty() -> Basin {
+    Basin {
+        n: 0,
+        m: 0,
+        subs: [SubBasin::from([0; record::WORDS]); 32],
+        reaches: [Reach::default(); 31],
     }
 }
 
@@ -43,12 +57,12 @@ impl Stepped {
 
 // A step on the basin, which is then the one that is handed back.
 pub fn step(b: &mut Basin, lines: [Line; 32], count: u64) -> Stepped {
-    let given = step::step(*b, lines, count);
-    *b = given.basin;
+    let given = b.step(lines, count);
+    let [number, place] = refusals::told(&given);
     Stepped {
-        number: given.number,
-        place: given.place,
-        report: given.report,
+        number,
+        place,
+        report: given.unwrap_or(ZEROS),
     }
 }
 
@@ -63,11 +77,11 @@ pub struct Ran {
 
 // A week on the basin, which is then the one that is handed back.
 pub fn week(b: &mut Basin, lines: &[Line]) -> Ran {
-    let given = week::week(*b, lines);
-    *b = given.basin;
+    let given = week::week(b, lines);
+    let [number, place] = refusals::told(&given.refusal.map_or(Ok(()), Err));
     Ran {
-        number: given.number,
-        place: given.place,
+        number,
+        place,
         count: given.count,
         report: given.report,
     }

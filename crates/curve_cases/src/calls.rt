@@ -1,12 +1,14 @@
 // The public calls of `curve`, each on a row of four numbers: a root takes the first, a Power the first two, the others all.
 ghost use Rattle.std.specs.Prelude.{◌≤◌};
 
+use common::refusal::Refusal;
 use curve::capacity;
-use curve::capacity::Answer;
-use curve::store::{Released, Store};
+use curve::capacity::{Curve, Newton, Printed};
+use curve::store::{Store, Taken};
 use std::{fmt, io};
 use testing::checksum::Checksum;
 use testing::lines::Row;
+use testing::refusals;
 
 #[derive(Clone, Copy)]
 pub enum Call {
@@ -60,12 +62,12 @@ impl Call {
     fn answer(self, v: [u64; 4]) -> Numbers {
         let [first, second, third, last] = v;
         match self {
-            Call::Root => Numbers::from(capacity::root(first)),
-            Call::RootByTable => Numbers::from(capacity::root_by_table(first)),
-            Call::Power => Numbers::from(capacity::power(first, second)),
-            Call::PowerByTable => Numbers::from(capacity::power_by_table(first, second)),
-            Call::Held => Numbers::from(capacity::held(first, second, third, last)),
-            Call::Ordinate => Numbers::from(capacity::ordinate(first, second, third, last)),
+            Call::Root => Numbers::from(capacity::root(&Newton, first)),
+            Call::RootByTable => Numbers::from(capacity::root(&Printed, first)),
+            Call::Power => Numbers::from(capacity::power(&Newton, first, second)),
+            Call::PowerByTable => Numbers::from(capacity::power(&Printed, first, second)),
+            Call::Held => Numbers::from(curve(v).held(&capacity::printed_roots(), last)),
+            Call::Ordinate => Numbers::from(curve(v).ordinate(&capacity::printed_roots(), last)),
             Call::Store => {
                 let before = Store {
                     a: first,
@@ -76,6 +78,11 @@ impl Call {
             }
         }
     }
+}
+
+// The curve of the first three.
+pub fn curve([c, m, e, _]: [u64; 4]) -> Curve {
+    Curve { c, m, e }
 }
 
 // An answer's numbers: number, place and value, or number, place, the store after and the outflow.
@@ -94,15 +101,16 @@ impl Numbers {
     }
 }
 
-impl From<Answer> for Numbers {
-    fn from(given: Answer) -> Numbers {
-        Numbers::Value([given.number, given.place, given.value])
+impl From<Result<u64, Refusal>> for Numbers {
+    fn from(given: Result<u64, Refusal>) -> Numbers {
+        Numbers::Value([refusals::number(&given), 0, given.unwrap_or(0)])
     }
 }
 
-impl From<Released> for Numbers {
-    fn from(given: Released) -> Numbers {
+impl From<Taken> for Numbers {
+    fn from(given: Taken) -> Numbers {
         let Store { a, g, content } = given.store;
-        Numbers::Store([given.number, given.place, a, g, content, given.outflow])
+        let number = refusals::number(&given.outflow);
+        Numbers::Store([number, 0, a, g, content, given.outflow.unwrap_or(0)])
     }
 }

@@ -1,9 +1,10 @@
 // Root, Held and Ordinate with tables of roots that mislead: they answer as they do by the printed one. For each table a checksum of every
 // root and one of a random series.
 use crate::calls::{Call, Numbers};
-use crate::random;
+use crate::{calls, random};
+use common::refusal::Refusal;
 use curve::capacity;
-use curve::capacity::{Answer, Roots};
+use curve::capacity::Roots;
 use std::io;
 use testing::chance::Chance;
 use testing::checksum::Checksum;
@@ -26,7 +27,7 @@ fn line(rt: &impl Print, name: &str, roots: &Roots) -> io::Result<()> {
 fn every_root(roots: &Roots) -> Checksum {
     let mut sum = Checksum::new();
     for t in 0..65538 {
-        add(&mut sum, capacity::root_with(roots, t));
+        add(&mut sum, capacity::root(roots, t));
     }
     sum
 }
@@ -37,14 +38,14 @@ fn drawn(roots: &Roots) -> Checksum {
     let mut sum = Checksum::new();
     for _ in 0..10000 {
         let mut same = chance;
-        let [c, m, e, a] = random::arguments(Call::Held, &mut same);
-        add(&mut sum, capacity::held_with(roots, c, m, e, a));
-        let [c, m, e, w] = random::arguments(Call::Ordinate, &mut chance);
-        add(&mut sum, capacity::ordinate_with(roots, c, m, e, w));
+        let v = random::arguments(Call::Held, &mut same);
+        add(&mut sum, calls::curve(v).held(roots, v[3]));
+        let v = random::arguments(Call::Ordinate, &mut chance);
+        add(&mut sum, calls::curve(v).ordinate(roots, v[3]));
     }
     sum
 }
 
-fn add(sum: &mut Checksum, given: Answer) {
+fn add(sum: &mut Checksum, given: Result<u64, Refusal>) {
     sum.add_row(Numbers::from(given).as_slice());
 }

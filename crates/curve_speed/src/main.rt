@@ -4,8 +4,9 @@
 
 ghost use Rattle.std.specs.Prelude.{◌≤◌};
 
+use common::refusal::Refusal;
 use curve::capacity;
-use curve::capacity::{Answer, Roots};
+use curve::capacity::{Curve, Newton, Printed, Roots};
 use std::{env, fmt, io};
 
 // Idle, a root by each way, and searches: of many curves, and of the one point where most trials are needed.
@@ -85,9 +86,9 @@ fn turn(way: Way, roots: &Roots, i: u64, r: u64) -> u64
     let t = (i * 40503 + r % ROUND) % ROUND;
     match way {
         Way::Idle => t,
-        Way::Newton => value(capacity::root(t)),
-        Way::Lent => value(capacity::root_with(roots, t)),
-        Way::Made => value(capacity::root_by_table(t)),
+        Way::Newton => value(capacity::root(&Newton, t)),
+        Way::Lent => value(capacity::root(roots, t)),
+        Way::Made => value(capacity::root(&Printed, t)),
         Way::Search => search(roots, i, r),
         Way::Worst => worst(roots, r),
     }
@@ -99,14 +100,24 @@ fn search(roots: &Roots, i: u64, r: u64) -> u64
     let c = 100000 + i * 7919 % 400001;
     let m = 150000 + i * 104729 % 1850001;
     let w = (i * 40503 + r % ROUND) % c;
-    value(capacity::ordinate_with(roots, c, m, 16 + i % 33, w))
+    let curve = Curve {
+        c,
+        m,
+        e: 16 + i % 33,
+    };
+    value(curve.ordinate(roots, w))
 }
 
 // As no ordinate is above 2,000,000, w is always the same.
 fn worst(roots: &Roots, r: u64) -> u64 {
-    value(capacity::ordinate_with(roots, 65536, 2000000, 43, 65535 - r / 2000001 % 2))
+    let curve = Curve {
+        c: 65536,
+        m: 2000000,
+        e: 43,
+    };
+    value(curve.ordinate(roots, 65535 - r / 2000001 % 2))
 }
 
-fn value(given: Answer) -> u64 {
-    given.value
+fn value(given: Result<u64, Refusal>) -> u64 {
+    given.unwrap_or(0)
 }

@@ -1,11 +1,13 @@
 // The depth call on chosen numbers, printed, and on long series of them, folded into a checksum for each.
 use crate::numbers;
+use common::refusal::Refusal;
 use forcing::depth;
-use forcing::depth::{Depth, Gauge};
+use forcing::depth::Gauge;
 use std::{fmt, io};
 use testing::chance::Chance;
 use testing::checksum::Checksum;
 use testing::lines::Row;
+use testing::refusals;
 
 // Zeros, the least normals, infinities, a NaN, both limits, powers of 2, and the examples of document 01 and of a half.
 const CENTRES: [u32; 20] = [
@@ -109,6 +111,6 @@ fn name_of(said: Gauge) -> &'static str {
 }
 
 // Number, place and depth.
-fn told(given: Depth) -> [u64; 3] {
-    [given.number, given.place, given.depth]
+fn told(given: Result<u64, Refusal>) -> [u64; 3] {
+    [refusals::number(&given), 0, given.unwrap_or(0)]
 }

@@ -7,6 +7,7 @@ use std::io;
 use testing::chance::Chance;
 use testing::checksum::Checksum;
 use testing::lines::Row;
+use testing::refusals;
 
 // A line of the table at a place, N and count at 32, up to the place and just before it.
 pub fn faults(rt: &impl Print) -> io::Result<()> {
@@ -119,13 +120,18 @@ impl Told {
 
 fn read(lines: [Line; 32], count: u64, n: u64) -> Told {
     let given = list::read(lines, count, n);
+    let [number, place] = refusals::told(&given);
     let mut depths = [0; 64];
-    for (i, here) in given.weather.into_iter().enumerate() {
-        depths[i] = here.rain;
-        depths[i + 32] = here.pan;
+    let mut estimated = 0;
+    if let Ok(readings) = given {
+        estimated = readings.estimated;
+        for (i, here) in readings.weather.into_iter().enumerate() {
+            depths[i] = here.rain;
+            depths[i + 32] = here.pan;
+        }
     }
     Told {
-        told: [given.number, given.place, given.estimated],
+        told: [number, place, estimated],
         depths,
     }
 }

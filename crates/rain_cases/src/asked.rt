@@ -1,11 +1,14 @@
 // Questions, and what is printed of their answers.
 use basin::state::Basin;
+use common::refusal::Refusal;
 use common::weather::Weather;
 use forcing::depth;
 use forcing::depth::Gauge;
 use subbasin::record::SubBasin;
-use subbasin::yields::Answer;
-use subbasin::{step, yields};
+use testing::refusals;
+
+// A rain, none, or a refusal.
+type Answer = Result<Option<u64>, Refusal>;
 
 // A question but for the wanted depth: the pan depth is in millimetres.
 #[derive(Clone, Copy)]
@@ -22,7 +25,7 @@ impl Question<'_> {
     }
 
     fn answer(&self, wanted: u64) -> Answer {
-        rains::rain_for(*self.basin, self.number, self.pan, wanted)
+        rains::rain_for(self.basin, self.number, self.pan, wanted)
     }
 
     pub fn sub(&self) -> SubBasin {
@@ -31,7 +34,7 @@ impl Question<'_> {
 
     // In µm.
     pub fn pan_depth(&self) -> u64 {
-        depth::depth_of(self.pan, Gauge::Pan).depth
+        depth::depth_of(self.pan, Gauge::Pan).unwrap_or(0)
     }
 
     // The greatest depth below 2^20 that is answered with a rain, bit by bit.
@@ -49,24 +52,22 @@ impl Question<'_> {
 
 // The same of the sub-basin's own call.
 pub fn own_told(s: &SubBasin, pan: u64, wanted: u64) -> [u64; 4] {
-    told(&yields::rain_for(*s, pan, wanted), s, pan, wanted)
+    told(&s.rain_for(pan, wanted), s, pan, wanted)
 }
 
 // Number, place, whether the answer is none, and whether its rain does; of a refusal or none the last is what stands for the rain.
 fn told(given: &Answer, s: &SubBasin, pan: u64, wanted: u64) -> [u64; 4] {
-    let last = match rain_of(given) {
-        Some(rain) => u64::from(does(s, rain, pan, wanted)),
-        None => given.rain,
-    };
-    [given.number, given.place, u64::from(given.none), last]
+    let last = rain_of(given).map_or(0, |rain| u64::from(does(s, rain, pan, wanted)));
+    [
+        refusals::number(given),
+        0,
+        u64::from(*given == Ok(None)),
+        last,
+    ]
 }
 
 fn rain_of(given: &Answer) -> Option<u64> {
-    if given.number == 0 && !given.none {
-        Some(given.rain)
-    } else {
-        None
-    }
+    given.unwrap_or(None)
 }
 
 // Whether the rain is one of the 1,001 and yields the wanted depth.
@@ -77,6 +78,9 @@ fn does(s: &SubBasin, rain: u64, pan: u64, wanted: u64) -> bool {
 // RB + R of a step under so many millimetres of rain.
 pub fn yielded(s: &SubBasin, rain: u64, pan: u64) -> u64 {
     let rain = rain.saturating_mul(1000);
-    let given = step::step(*s, Weather { rain, pan });
-    given.rb.wrapping_add(given.r)
+    let mut after = *s;
+    match after.step(Weather { rain, pan }) {
+        Ok(given) => given.rb.wrapping_add(given.r),
+        Err(_) => 0,
+    }
 }

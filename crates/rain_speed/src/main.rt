@@ -5,17 +5,16 @@
 #![tactic(auto)]
 
 use basin_testing::calls;
+use common::refusal::Refusal;
 use common::weather::Weather;
 use std::{env, fmt, io};
 use subbasin::record::SubBasin;
-use subbasin::step::Stepped;
-use subbasin::yields::Answer;
-use subbasin::{step, yields};
+use subbasin::step::Flows;
 use testing::chance::Chance;
 use testing::checksum::Checksum;
-use testing::choices;
 use testing::choices::Choice;
 use testing::drafts::Plan;
+use testing::{choices, refusals};
 
 #[derive(Clone, Copy)]
 enum Way {
@@ -180,15 +179,18 @@ fn turn(way: Way, state: State, mut s: SubBasin, sum: &mut Checksum) {
     sum.add(s.contents.wu);
     match way {
         Way::Idle => {}
-        Way::Call => add_call(sum, &step::step(s, most)),
-        Way::None => add_answer(sum, &yields::rain_for(s, 0, u64::MAX)),
+        Way::Call => add_call(sum, s.step(most)),
+        Way::None => add_answer(sum, s.rain_for(0, u64::MAX)),
     }
 }
 
-fn add_call(sum: &mut Checksum, given: &Stepped) {
-    sum.add_row(&[given.number, given.rb, given.r, given.q]);
+fn add_call(sum: &mut Checksum, given: Result<Flows, Refusal>) {
+    sum.add(refusals::number(&given));
+    sum.add_row(&given.map_or([0; 3], |flows| [flows.rb, flows.r, flows.q]));
 }
 
-fn add_answer(sum: &mut Checksum, given: &Answer) {
-    sum.add_row(&[given.number, given.place, u64::from(given.none), given.rain]);
+fn add_answer(sum: &mut Checksum, given: Result<Option<u64>, Refusal>) {
+    let none = u64::from(given == Ok(None));
+    let rain = given.unwrap_or(None).unwrap_or(0);
+    sum.add_row(&[refusals::number(&given), 0, none, rain]);
 }

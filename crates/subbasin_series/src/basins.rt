@@ -1,16 +1,15 @@
 // The sub-basins that the series start from.
 use crate::choices;
-use subbasin::record;
 use subbasin::record::SubBasin;
 use testing::case_a;
 
 pub fn case_a() -> SubBasin {
-    record::of_words(case_a::WORDS)
+    SubBasin::from(case_a::WORDS)
 }
 
 // Every word away from its ends, and one amount in every place of the lag line that is in use.
 pub fn middling() -> SubBasin {
-    let mut s = record::of_words([
+    let mut s = SubBasin::from([
         800, 62000, 15000, 70000, 50000, 10000, 21, 1311, 25000, 23, 20000, 25000, 50000, 64000,
         40000, 5, 2, 5000, 30000, 20000, 3000, 1500, 90000,
     ]);

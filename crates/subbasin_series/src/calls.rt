@@ -2,12 +2,11 @@
 use common::weather::{MOST_PAN, MOST_RAIN, Weather};
 use std::io;
 use subbasin::record::{MOST_SLOW, SubBasin};
-use subbasin::step;
 use testing::checksum::Checksum;
 use testing::lines::Row;
 use testing::ranges::{Edge, Range};
-use testing::rows;
 use testing::rows::Numbers;
+use testing::{refusals, rows};
 
 #[derive(Clone, Copy)]
 pub struct Call {
@@ -30,15 +29,14 @@ pub struct Told {
 impl Call {
     // Makes the call: the record is then the one that is handed back.
     pub fn take(&mut self) -> Told {
-        let given = step::step(self.record, self.weather);
-        self.record = given.after;
+        let given = self.record.step(self.weather);
         Told {
-            number: given.number,
-            place: given.place,
-            flows: [
-                given.eu, given.el, given.ed, given.rb, given.r, given.rs, given.ri, given.rg,
-                given.q,
-            ],
+            number: refusals::number(&given),
+            place: 0,
+            flows: match given {
+                Ok(f) => [f.eu, f.el, f.ed, f.rb, f.r, f.rs, f.ri, f.rg, f.q],
+                Err(_) => [0; 9],
+            },
         }
     }
 

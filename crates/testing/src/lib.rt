@@ -1,4 +1,5 @@
-// What the test programs share: the checksum, the printed lines, the generator, records and files as numbers, and their ranges.
+// What the test programs share: the checksum, the printed lines, the generator, records and files as numbers, their ranges, and an answer's
+// number and place.
 #![tactic(auto)]
 
 pub mod case_a;
@@ -10,5 +11,6 @@ pub mod drafts;
 pub mod files;
 pub mod lines;
 pub mod ranges;
+pub mod refusals;
 pub mod rows;
 pub mod spots;

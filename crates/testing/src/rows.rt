@@ -24,7 +24,7 @@ impl Numbers {
 impl From<&SubBasin> for Numbers {
     fn from(s: &SubBasin) -> Numbers {
         let mut numbers = [s.channel; PLACES];
-        numbers[..record::WORDS].copy_from_slice(&record::words_of(*s));
+        numbers[..record::WORDS].copy_from_slice(&s.words());
         numbers[record::WORDS..CHANNEL].copy_from_slice(&s.line.waiting);
         Numbers(numbers)
     }
@@ -34,7 +34,7 @@ impl From<Numbers> for SubBasin {
     fn from(numbers: Numbers) -> SubBasin {
         let mut words = [0; record::WORDS];
         words.copy_from_slice(&numbers.0[..record::WORDS]);
-        let mut s = record::of_words(words);
+        let mut s = SubBasin::from(words);
         s.line
             .waiting
             .copy_from_slice(&numbers.0[record::WORDS..CHANNEL]);

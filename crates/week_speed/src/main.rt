@@ -4,8 +4,6 @@
 #![tactic(auto)]
 
 use basin::state::Basin;
-use basin::step;
-use basin::step::Outcome;
 use basin_testing::weather::BLANK;
 use basin_testing::{calls, checksum, weather};
 use curve::capacity;
@@ -106,26 +104,16 @@ fn week(way: Way, roots: &Roots, b: &mut Basin, days: &[Line; 64], lines: &[Line
         Way::Week => {
             calls::week(b, &lines[..long]);
         }
-        Way::Steps => steps(b, days, count, step::step),
-        Way::Lent => steps(
-            b,
-            days,
-            count,
-            |b, here, n| step::step_with(roots, b, here, n),
-        ),
-    }
-}
-
-fn steps<F: Fn(Basin, [Line; 32], u64) -> Outcome>(
-    b: &mut Basin,
-    days: &[Line; 64],
-    count: u64,
-    step: F,
-)
-    requires { F.IsAlwaysCallable step }
-{
-    for j in 0..count {
-        *b = step(*b, lines_of(days, j, b.n), b.n).basin;
+        Way::Steps => {
+            for j in 0..count {
+                let _ = b.step(lines_of(days, j, b.n), b.n);
+            }
+        }
+        Way::Lent => {
+            for j in 0..count {
+                let _ = b.step_with(roots, lines_of(days, j, b.n), b.n);
+            }
+        }
     }
 }
 
