@@ -83,7 +83,7 @@ impl Curve {
     }
 }
 
-// A curve inside its limits.
+// A curve inside its limits. The roots go beside it: of a struct that holds a reference each clause would have to say at which end of a call.
 #[derive(Clone, Copy)]
 struct Inside {
     curve: Curve,

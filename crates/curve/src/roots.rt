@@ -100,13 +100,13 @@ fn lead(roots: &Roots, t: u64) -> Option<u64>
     requires { t < one }
     ensures { Leads roots.now t result }
 {
-    if t < ENTRIES {
-        return entry(roots, t);
+    if NEAR <= t {
+        return near(roots, t);
     }
-    if t < NEAR {
+    if ENTRIES <= t {
         return Some(near(roots, t * 4)? / 2);
     }
-    near(roots, t)
+    entry(roots, t)
 }
 
 // Newton's step from eight times the entry of t / 64.
