@@ -13,6 +13,8 @@ use crate::{free_water, soil};
 use common::shares::ONE;
 use curve::capacity::{Curve, Roots};
 
+// What else its methods ask, that net rain is at most 1,000,000 and that layers are within their capacities, ties what is handed in to
+// it: types for these would be unwrapped in every line, and made anew for every slice.
 #[derive(Clone, Copy)]
 pub struct Ground<'a> {
     roots: &'a Roots,

@@ -2,7 +2,6 @@
 ghost use Rattle.std.specs.Prelude.{◌≡◌, ◌<◌, IfSome};
 ghost use Rattle.subbasin.specs.Record.{word_count, words_of, of_words, first_outside, number_of, record_in, is_blank};
 
-use crate::lag;
 use common::amounts;
 use common::shares::ONE;
 use curve::store::MOST_CONTENT;
@@ -187,7 +186,7 @@ impl SubBasin {
         if self.first_outside(m, MOST_SLOW).is_some() {
             return false;
         }
-        self.channel <= MOST_CONTENT && lag::allowed(&self.line)
+        self.channel <= MOST_CONTENT && self.line.allowed()
     }
 
     // Whether the record is all zeros.

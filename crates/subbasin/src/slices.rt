@@ -27,7 +27,7 @@ impl Ground<'_> {
         ensures kept_most { result.kept ≤ self.now.p.now.sm }
         ensures direct_most { result.rs + result.rb ≤ 1100000 }
     {
-        let mut given = begin(w, g);
+        let mut given = Sliced::begin(w, g);
         for i in 0..count(pe) {
             given = self.take_slice(given, SLICE.min(pe - i * SLICE));
         }
@@ -42,9 +42,37 @@ impl Ground<'_> {
     {
         let ro = self.run_off(s.layers, pe);
         if ro.r == 0 {
-            return add(s, ro, s.kept);
+            return s.add(ro, s.kept);
         }
-        add(s, ro, self.keep_of(s.kept, pe, ro.r))
+        s.add(ro, self.keep_of(s.kept, pe, ro.r))
+    }
+}
+
+impl Sliced {
+    fn begin(w: Layers, g: u64) -> Sliced
+        ensures { result ≡ no_slice w g }
+    {
+        Sliced {
+            rb: 0,
+            r: 0,
+            rs: 0,
+            layers: w,
+            kept: g,
+        }
+    }
+
+    // With a slice's runoff, and what is kept after it.
+    fn add(self, ro: Runoff, kept: u64) -> Sliced
+        requires { (self.rb + self.r + ro.rb + ro.r ≤ 1000000) × (self.rs + self.kept + ro.r ≤ 1100000) × (kept ≤ self.kept + ro.r) }
+        ensures { result ≡ added self ro kept }
+    {
+        Sliced {
+            rb: self.rb + ro.rb,
+            r: self.r + ro.r,
+            rs: self.rs + (self.kept + ro.r - kept),
+            layers: ro.layers,
+            kept,
+        }
     }
 }
 
@@ -55,31 +83,4 @@ fn count(pe: u64) -> u64
     ensures { result ≡ slices pe }
 {
     (pe + (SLICE - 1)) / SLICE
-}
-
-fn begin(w: Layers, g: u64) -> Sliced
-    ensures { result ≡ no_slice w g }
-{
-    Sliced {
-        rb: 0,
-        r: 0,
-        rs: 0,
-        layers: w,
-        kept: g,
-    }
-}
-
-// A slice's runoff, and what is kept after it, added to what the slices before it gave.
-fn add(s: Sliced, ro: Runoff, kept: u64) -> Sliced
-    requires { (s.rb + s.r + ro.rb + ro.r ≤ 1000000) × (s.rs + s.kept + ro.r ≤ 1100000) × (kept ≤ s.kept + ro.r) }
-    ensures { result ≡ added s ro kept }
-{
-    let layers = ro.layers;
-    Sliced {
-        rb: s.rb + ro.rb,
-        r: s.r + ro.r,
-        rs: s.rs + (s.kept + ro.r - kept),
-        layers,
-        kept,
-    }
 }

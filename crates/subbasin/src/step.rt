@@ -10,7 +10,6 @@ ghost use Rattle.subbasin.specs.Step.{holds, let_go, evaporated_of, with_drained
 
 use crate::free_water::Drained;
 use crate::ground::Ground;
-use crate::lag;
 use crate::record::SubBasin;
 use crate::slices::Sliced;
 use crate::soil::Evaporated;
@@ -38,7 +37,7 @@ pub struct Flows {
 impl SubBasin {
     // Whether a step under this weather is accepted.
     #[tactic(auto, unfolding(crate::specs::Step::call_in))]
-    pub fn accepts(&self, weather: Weather) -> bool
+    pub(crate) fn accepts(&self, weather: Weather) -> bool
         ensures { result ≡ call_in self.now weather }
     {
         if MOST_RAIN < weather.rain {
@@ -94,8 +93,8 @@ impl SubBasin {
         let ti = pass(self.fixed.ci, &mut self.contents.vi, dr.ri);
         let tg = pass(self.fixed.cg, &mut self.contents.vg, dr.rg);
         let t = (sl.rs + sl.rb + ti + tg) * self.fixed.area;
-        let q = pass(self.fixed.cs, &mut self.channel, lag::leave(&self.line, t));
-        self.line = lag::enter(self.line, t);
+        let q = pass(self.fixed.cs, &mut self.channel, self.line.leave(t));
+        self.line = self.line.enter(t);
         let layers = sl.layers;
         self.contents.wu = layers.wu;
         self.contents.wl = layers.wl;

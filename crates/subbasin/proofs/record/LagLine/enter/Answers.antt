@@ -1,4 +1,4 @@
--- `subbasin::lag::enter` meets its contract: what is filled up with zeros is t and the first 14 of the amounts. Assumes nothing.
+-- `subbasin::record::LagLine::enter` meets its contract: what is filled up with zeros is t and the first 14 of the amounts. Assumes nothing.
 use mathlib.Core.Path.{◌≡◌, ap, ◌∙◌}
 use mathlib.Core.List.{List, [], ◌∷◌, ◌++◌}
 use Prim.Native.Nat.{ℕ, ◌-◌, ◌≤◌}
@@ -10,7 +10,7 @@ use Rattle.std.proofs.Common.{append-nil}
 use Rattle.common.proofs.amounts.AmountLaws.{listed, listed_take}
 use Rattle.subbasin.specs.declared.record.LagLine.{LagLine}
 use Rattle.subbasin.specs.Lag.{waiting_after, entered}
-use Rattle.subbasin.proofs.lag.enter.Goals as goal
+use Rattle.subbasin.proofs.record.LagLine.enter.Goals as goal
 
 -- nothing stands past the zeros
 no_more : (a : ℕ) (xs : List ℕ) → a ≤ 15 → length xs ≡ 15 → post_of a (15 - a) xs ≡ []
