@@ -1,15 +1,10 @@
 use native.Mathlib.Omega.{arith}
 use Rattle.basin.specs.Workers.{subs_only}
-use Rattle.basin.proofs.step.SubsLaws.{stepping_begin, weather_here, stepping_stop, stepping_fits, stepping_turn, stepping_end, refused_so}
+use Rattle.basin.proofs.step.SubsLaws.{stepping_begin, stepping_stop, stepping_fits, stepping_turn, stepping_end, refused_so}
 use Rattle.basin.proofs.step.step_subs.Goals as goal
 
 pub loop-i-init : goal.loop-i-init
 loop-i-init c = stepping_begin (subs_only _ _ _) _ c.requires.0 c.requires.1 (search) c.requires.2
-
-pub take_turn-requires : goal.take_turn-requires
-take_turn-requires c =
-    let at = c.loop-i in
-    (at.invariant.m_most, weather_here _ _ at.invariant c.loop-i-test.true _)
 
 pub returns-in_err-turn : goal.returns-in_err-turn
 returns-in_err-turn c =
