@@ -1,7 +1,7 @@
 // Reading and writing that an interrupt does not end: the call is tried again.
 ghost use Rattle.std.specs.Prelude.{◌≤◌, ◌<◌, length, IfOk, IfErr, OnOk};
 ghost use Rattle.std.specs.Io.{ReadsAtMost, WritesAtMost};
-ghost use Rattle.std.specs.Io.KnownBytes.{Appends, WriteAppends};
+ghost use Rattle.std.specs.Io.KnownBytes.{Appends, ReadConsumes, WriteAppends};
 
 use std::io;
 use std::io::ErrorKind;
@@ -11,12 +11,14 @@ const CALLS: u64 = u64::MAX;
 
 // Reads what is there: nothing at the end of the input.
 pub fn read_some<R: io::Read>(from: &mut R, bytes: &mut [u8]) -> io::Result<usize>
-    ensures { ReadsAtMost result bytes.new }
+    ensures bound { ReadsAtMost result bytes.new }
+    ensures bytes { ReadConsumes (R.remaining from.old) (R.remaining from.new) result bytes.new }
 {
     for _ in 0..CALLS {
         match from.read(bytes) {
+            Ok(count) => return Ok(count),
             Err(error) if error.kind() == ErrorKind::Interrupted => {}
-            read => return read,
+            Err(error) => return Err(error),
         }
     }
     Err(io::Error::from(ErrorKind::Interrupted))

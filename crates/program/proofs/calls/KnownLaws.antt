@@ -1,9 +1,9 @@
--- What a writer holds after tries that left it as it was. Assumes nothing.
-use mathlib.Core.Path.{ap, ◌∙◌}
+-- What a writer holds, and a reader has left, after tries that left it as it was. Assumes nothing.
+use mathlib.Core.Path.{sym, ap, ◌∙◌}
 use mathlib.Core.List.{List, [], ◌++◌, append-nil}
 use Prim.Native.Nat.{ℕ}
 use Rattle.std.proofs.Common.{Option, None, Some}
-use Rattle.std.specs.Io.KnownBytes.{Appends, Keeps}
+use Rattle.std.specs.Io.KnownBytes.{Appends, Consumes, Keeps}
 use Rattle.std.proofs.KnownBytes.{Keeps-trans}
 
 -- a write of nothing
@@ -20,3 +20,9 @@ kept_appends None b c bs p q = tt
 kept_appends (Some xs) None c bs p q = absurd p
 kept_appends (Some xs) (Some ys) None bs p q = q
 kept_appends (Some xs) (Some ys) (Some zs) bs p q = q ∙ ap (λ (l : List ℕ). l ++ bs) p
+
+pub kept_consumes : (a b c : Option (List ℕ)) (bs : List ℕ) → Keeps a b → Consumes b c bs → Consumes a c bs
+kept_consumes None b c bs p q = tt
+kept_consumes (Some xs) None c bs p q = absurd p
+kept_consumes (Some xs) (Some ys) None bs p q = q
+kept_consumes (Some xs) (Some ys) (Some zs) bs p q = sym p ∙ q
