@@ -2,6 +2,7 @@
 // files come from the second model, `model program-cases`, and what must be printed too, `model expect program_cases`.
 #![tactic(auto)]
 
+use common::refusal::{Refusal, Refused};
 use program::say;
 use std::fmt::InlineText;
 use std::io;
@@ -46,11 +47,12 @@ fn run(rt: HostRuntime, number: u8) -> io::Result<()> {
 // What is said of a file with n sub-basins and m reaches, of every word of it last.
 fn refused_loads<W: io::Write>(to: &mut W, n: u8, m: u8) {
     let bytes = [n, 0, 0, 0, m, 0, 0, 0];
-    say::refused_load(to, &bytes, 1, 0);
-    say::refused_load(to, &bytes, 2, 0);
-    say::refused_load(to, &bytes, 2, 1);
-    say::refused_load(to, &bytes, 3, 0);
+    let mut say = |why, place| say::refused_load(to, &bytes, Refused { why, place });
+    say(Refusal::FewBytes, 0);
+    say(Refusal::Counts, 0);
+    say(Refusal::Counts, 1);
+    say(Refusal::Length, 0);
     for place in 2..2 + 23 * n as u64 + 3 * m as u64 {
-        say::refused_load(to, &bytes, 4, place);
+        say(Refusal::Word, place);
     }
 }
