@@ -13,22 +13,23 @@ pub const LINE_BYTES: u64 = 12;
 pub fn lines_of(bytes: &[u8], n: u64) -> [Line; 32]
     ensures { result ≡ lines_of bytes.now n }
 {
-    let mut lines = [line_of(0, 0, 0); 32];
-    for k in 0..n.min(32) {
-        lines[k as usize] = file_line(bytes, k);
-    }
-    lines
+    std::array::from_fn(|k| if (k as u64) < n {
+        file_line(bytes, k)
+    } else {
+        line_of(0, 0, 0)
+    })
 }
 
 // Line k, counted from 0.
 #[tactic(auto, unfolding(crate::specs::File::file_line))]
-fn file_line(bytes: &[u8], k: u64) -> Line
+fn file_line(bytes: &[u8], k: usize) -> Line
     requires { k < 32 }
     ensures { result ≡ file_line bytes.now k }
 {
-    let kind = bytes::word(bytes, 3 * k) as u32;
-    let rain = bytes::word(bytes, 3 * k + 1) as u32;
-    let pan = bytes::word(bytes, 3 * k + 2) as u32;
+    let first = 3 * k as u64;
+    let kind = bytes::word(bytes, first) as u32;
+    let rain = bytes::word(bytes, first + 1) as u32;
+    let pan = bytes::word(bytes, first + 2) as u32;
     line_of(kind, rain, pan)
 }
 
