@@ -1,7 +1,6 @@
 // One sub-basin, one step: document 01, "One sub-basin, one step" and "The store law"; net rain as document 02, No. 3, has it.
 ghost use Rattle.std.specs.Prelude.{◌≡◌, true, ◌+◌, ◌≤◌};
 ghost use Rattle.common.specs.Shares.{one};
-ghost use Rattle.common.specs.Weather.{WeatherIn};
 ghost use Rattle.curve.specs.Store.{most_inflow, most_content};
 ghost use Rattle.subbasin.specs.Record.{record_in};
 ghost use Rattle.subbasin.specs.FreeWater.{drained};

@@ -1,5 +1,5 @@
 // Which rain would do it: document 02, No. 5. Rains are in whole millimetres, all else in µm.
-ghost use Rattle.std.specs.Prelude.{◌≡◌, ◌≤◌};
+ghost use Rattle.std.specs.Prelude.{◌≤◌};
 ghost use Rattle.subbasin.specs.Soil.{wm};
 ghost use Rattle.subbasin.specs.Yields.{yield, Answers, as_answer, own_refusal};
 ghost use Rattle.subbasin.specs.Workers.{unsoaked};
