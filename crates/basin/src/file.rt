@@ -96,11 +96,8 @@ impl Record for SubBasin {
     const WORDS: u64 = record::WORDS as u64;
 
     fn read(bytes: &[u8], start: u64) -> SubBasin {
-        let mut v = [0; record::WORDS];
-        for k in 0..record::WORDS {
-            v[k] = word(bytes, start + k as u64);
-        }
-        v.into()
+        let words: [u64; record::WORDS] = std::array::from_fn(|k| word(bytes, start + k as u64));
+        words.into()
     }
 
     fn first_out(&self, _number: u64, m: u64) -> Option<usize> {

@@ -61,3 +61,11 @@ table_made {g = g} x z n {many} {ys} made gives =
         by_test (λ y. y ≡ get_or (table x z n many) k z) (ltb k n)
         (λ t. sym (table_in x z many n k l (ltb-true k n t)))
         (λ t. sym (table_past x z many n k (ltb-false k n t)))
+
+-- the same where it has x k everywhere
+pub table_full : {F A : Type 0} {g : Mut F (ℕ × Unit {0}) A} {f : F} (x : ℕ → A) (z : A) {many : ℕ} {ys : List A} → IsFromFnResult g f ys many
+    → ((k : ℕ) (y : A) (q : F) → Called g f (k, tt) y q → (q ≡ f) × (y ≡ x k)) → ys ≡ table x z many many
+table_full {g = g} x z {many} {ys} made gives =
+    entries_same z ys (table x z many many) (made.long ∙ sym (table_length x z many many))
+    (λ k b. made_at g x gives ys 0 many z made.each k k (omega (arith, b, made.long)) (omega arith)
+    ∙ sym (table_in x z many many k (omega (arith, b, made.long)) (omega (arith, b, made.long))))

@@ -1,14 +1,11 @@
-use mathlib.Core.Path.{ap, ◌∙◌}
-use native.Mathlib.Omega.{arith}
-use Rattle.common.proofs.Loops.{fill_begin, fill_turn, fill_end}
+-- A sub-basin's `read` meets its contract. Assumes nothing.
+use Rattle.std.proofs.Common.{ap, ◌∙◌, ◌+◌, rules, tests}
+use Rattle.common.specs.Bytes.{word_at}
+use Rattle.common.proofs.Tables.{table_full}
 use Rattle.subbasin.specs.Record.{of_words}
 use Rattle.basin.proofs.file.SubBasinRecord.read.Goals as goal
 
-pub loop-k-init : goal.loop-k-init
-loop-k-init c = fill_begin
-
-pub loop-k-preserved : goal.loop-k-preserved
-loop-k-preserved c = fill_turn c.loop-k.invariant c.loop-k-test.true c.word.ensures.0
-
 pub returns : goal.returns
-returns c = c.into.ensures ∙ ap of_words (fill_end c.loop-k.invariant (omega arith))
+returns c =
+    c.into.ensures
+    ∙ ap of_words (table_full (λ k. word_at c.args.bytes.now (c.args.start + k)) 0 c.from_fn-words.ensures.items (λ k y q called. search (rules, tests)))
