@@ -1,11 +1,12 @@
 // Every number of a basin in turn: one below its least, at its least, at its most, one above, and at the greatest u64.
 use crate::series;
 use basin::state::Basin;
-use basin_testing::{calls, places, weather};
+use basin_testing::{places, weather};
 use std::io;
 use testing::chance::Chance;
 use testing::checksum::Checksum;
 use testing::ranges::Edge;
+use testing::refusals;
 use testing::spots::Spot;
 
 // The place and the refusal number of each of the five are printed for N and M, for every tenth record and for every tenth reach.
@@ -20,11 +21,11 @@ pub fn print(rt: &impl Print, b: &Basin, chance: &mut Chance) -> io::Result<()> 
             let lines = weather::drawn(32 * k as u64, chance);
             let mut here = *b;
             places::put_edge(&mut here, place, edge);
-            let told = calls::step(&mut here, lines, b.n);
+            let given = here.step(lines, b.n);
             if shown {
-                print!(rt; " {}", told.number)?;
+                print!(rt; " {}", refusals::told(&given)[0])?;
             }
-            series::add(&mut sum, &told, &here);
+            series::add(&mut sum, &given, &here);
         }
         if shown {
             println!(rt; "")?;

@@ -1,9 +1,10 @@
 // A series of steps, each on the basin that the one before handed back, folded into a checksum.
 use crate::faults;
 use basin::state::Basin;
-use basin_testing::calls::Stepped;
+use basin::step::Report;
 use basin_testing::checksum::add_basin;
 use basin_testing::{calls, weather};
+use common::refusal::Refused;
 use std::io;
 use testing::chance::Chance;
 use testing::checksum::Checksum;
@@ -21,32 +22,30 @@ pub fn run(
         let lines = weather::drawn(i, chance);
         if i % 16 == 7 {
             let mut call = faults::astray(b, &lines, chance);
-            let told = calls::step(&mut call.basin, call.lines, call.count);
-            add(&mut sum, &told, &call.basin);
+            let given = call.basin.step(call.lines, call.count);
+            add(&mut sum, &given, &call.basin);
         } else {
             let n = b.n;
-            let told = calls::step(b, lines, n);
+            let given = b.step(lines, n);
             if i % 72 == 0 {
-                print(rt, i, &told)?;
+                print(rt, i, &given)?;
             }
-            add(&mut sum, &told, b);
+            add(&mut sum, &given, b);
         }
     }
     Ok(sum)
 }
 
 // Every number of an answer: number and place, the report, the basin.
-pub fn add(sum: &mut Checksum, told: &Stepped, after: &Basin) {
-    sum.add_row(&[told.number, told.place]);
-    sum.add_row(&calls::numbers_of(&told.report));
+pub fn add(sum: &mut Checksum, given: &Result<Report, Refused>, after: &Basin) {
+    sum.add_row(&calls::of_step(given));
     add_basin(sum, after);
 }
 
 // A step as the program prints it: document 01, "What the program prints".
-pub fn print(rt: &impl Print, i: u64, told: &Stepped) -> io::Result<()> {
-    if told.is_accepted() {
-        println!(rt; "{i} ok{}", Row(&calls::numbers_of(&told.report)))
-    } else {
-        println!(rt; "{i} refused {} {}", told.number, told.place)
+pub fn print(rt: &impl Print, i: u64, given: &Result<Report, Refused>) -> io::Result<()> {
+    match given {
+        Ok(report) => println!(rt; "{i} ok{}", Row(&calls::of_report(report))),
+        Err(refused) => println!(rt; "{i} refused {} {}", refused.why.number(), refused.place),
     }
 }

@@ -1,9 +1,10 @@
-// The calls of `basin` and `week`, and what they hand back as numbers.
+// Loaded basins, and the answers of `basin` and `week` as numbers.
 use basin::file;
 use basin::reach::Reach;
 use basin::state::Basin;
 use basin::step::{Report, ZEROS};
-use forcing::list::Line;
+use basin::week::Week;
+use common::refusal::Refused;
 use subbasin::record;
 use subbasin::record::SubBasin;
 use testing::chance::Chance;
@@ -11,23 +12,8 @@ use testing::drafts::Plan;
 use testing::files::File;
 use testing::refusals;
 
-// Number and place, which are 0 where a call is accepted, and the basin loaded.
-#[derive(Clone, Copy)]
-pub struct Loaded {
-    pub told: [u64; 2],
-    pub basin: Basin,
-}
-
-pub fn load(file: &File) -> Loaded {
-    let given = file::load(file.as_slice());
-    Loaded {
-        told: refusals::told(&given),
-        basin: given.unwrap_or(empty()),
-    }
-}
-
 // The basin that a refused load stands for.
-fn empty() -> Basin {
+pub fn empty() -> Basin {
     Basin {
         n: 0,
         m: 0,
@@ -38,74 +24,34 @@ fn empty() -> Basin {
 
 // The basin of a drafted file.
 pub fn started(plan: Plan, chance: &mut Chance) -> Basin {
-    load(&plan.draft(chance)).basin
+    file::load(plan.draft(chance).as_slice()).unwrap_or(empty())
 }
 
-// What a step tells: number and place, and the report.
-#[derive(Clone, Copy)]
-pub struct Stepped {
-    pub number: u64,
-    pub place: u64,
-    pub report: Report,
+// Number and place of a step, which are 0 where it is accepted, and its report, zeros where it is refused.
+pub fn of_step(given: &Result<Report, Refused>) -> [u64; 7] {
+    let [number, place] = refusals::told(given);
+    let [rain, lost, outlet, content, estimated] = of_report(&given.unwrap_or(ZEROS));
+    [number, place, rain, lost, outlet, content, estimated]
 }
 
-impl Stepped {
-    pub fn is_accepted(&self) -> bool {
-        self.number == 0
-    }
-}
-
-// A step on the basin, which is then the one that is handed back.
-pub fn step(b: &mut Basin, lines: [Line; 32], count: u64) -> Stepped {
-    let given = b.step(lines, count);
-    let [number, place] = refusals::told(&given);
-    Stepped {
-        number,
-        place,
-        report: given.unwrap_or(ZEROS),
-    }
-}
-
-// What a week tells: number and place, how many steps were accepted, and their reports together.
-#[derive(Clone, Copy)]
-pub struct Ran {
-    pub number: u64,
-    pub place: u64,
-    pub count: u64,
-    pub report: Report,
-}
-
-// A week on the basin, which is then the one that is handed back.
-pub fn week(b: &mut Basin, lines: &[Line]) -> Ran {
-    let given = week::week(b, lines);
+// Number and place of a week's refusal, its count, and its report.
+pub fn of_week(given: &Week) -> [u64; 8] {
     let [number, place] = refusals::told(&given.refusal.map_or(Ok(()), Err));
-    Ran {
+    let [rain, lost, outlet, content, estimated] = of_report(&given.report);
+    [
         number,
         place,
-        count: given.count,
-        report: given.report,
-    }
+        given.count,
+        rain,
+        lost,
+        outlet,
+        content,
+        estimated,
+    ]
 }
 
-impl Ran {
-    // Every number.
-    pub fn numbers(&self) -> [u64; 8] {
-        let [rain, lost, outlet, content, estimated] = numbers_of(&self.report);
-        [
-            self.number,
-            self.place,
-            self.count,
-            rain,
-            lost,
-            outlet,
-            content,
-            estimated,
-        ]
-    }
-}
-
-// A report's numbers, as the program prints them.
-pub fn numbers_of(report: &Report) -> [u64; 5] {
+// As the program prints them.
+pub fn of_report(report: &Report) -> [u64; 5] {
     [
         report.rain,
         report.evapotranspiration,

@@ -1,4 +1,5 @@
 // The load call on files, and its answers in a checksum.
+use basin::file;
 use basin_testing::calls;
 use basin_testing::checksum::add_basin;
 use testing::chance::Chance;
@@ -7,13 +8,15 @@ use testing::choices::Choice;
 use testing::drafts::{Plan, Shape};
 use testing::files::File;
 use testing::ranges::Edge;
+use testing::refusals;
 
 // One more load: its number and place.
 pub fn load(sum: &mut Checksum, file: &File) -> [u64; 2] {
-    let given = calls::load(file);
-    sum.add_row(&given.told);
-    add_basin(sum, &given.basin);
-    given.told
+    let given = file::load(file.as_slice());
+    let told = refusals::told(&given);
+    sum.add_row(&told);
+    add_basin(sum, &given.unwrap_or(calls::empty()));
+    told
 }
 
 // A good file, drawn.

@@ -40,7 +40,7 @@ pub fn go_on(b: &mut Basin, chance: &mut Chance, count: u64) {
     for _ in 0..count {
         let lines = weather::drawn(spell, chance);
         let n = b.n;
-        calls::step(b, lines, n);
+        let _ = b.step(lines, n);
     }
 }
 

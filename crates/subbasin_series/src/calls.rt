@@ -1,7 +1,9 @@
 // A sub-basin call as numbers by place: the record's, then rain and pan; their ranges; and what the call hands back.
+use common::refusal::Refusal;
 use common::weather::{MOST_PAN, MOST_RAIN, Weather};
 use std::io;
 use subbasin::record::{MOST_SLOW, SubBasin};
+use subbasin::step::Flows;
 use testing::checksum::Checksum;
 use testing::lines::Row;
 use testing::ranges::{Edge, Range};
@@ -18,42 +20,27 @@ const RAIN: usize = rows::PLACES;
 
 pub const PLACES: usize = rows::PLACES + 2;
 
-// What a call tells: number and place, and the flows.
-#[derive(Clone, Copy)]
-pub struct Told {
-    pub number: u64,
-    pub place: u64,
-    pub flows: [u64; 9],
-}
-
 impl Call {
     // Makes the call: the record is then the one that is handed back.
-    pub fn take(&mut self) -> Told {
-        let given = self.record.step(self.weather);
-        Told {
-            number: refusals::number(&given),
-            place: 0,
-            flows: match given {
-                Ok(f) => [f.eu, f.el, f.ed, f.rb, f.r, f.rs, f.ri, f.rg, f.q],
-                Err(_) => [0; 9],
-            },
-        }
+    pub fn take(&mut self) -> Result<Flows, Refusal> {
+        self.record.step(self.weather)
     }
 
     // The same, with every number of the call and its answer printed.
-    pub fn print(&mut self, rt: &impl Print) -> io::Result<Told> {
+    pub fn print(&mut self, rt: &impl Print) -> io::Result<Result<Flows, Refusal>> {
         let before = Numbers::from(&self.record);
-        let told = self.take();
+        let given = self.take();
         let after = Numbers::from(&self.record);
-        let row = [self.weather.rain, self.weather.pan, told.number, told.place];
+        let number = refusals::number(&given);
+        let row = [self.weather.rain, self.weather.pan, number, 0];
         println!(rt;
             "step{}{}{}{}",
             Row(&before.0),
             Row(&row),
             Row(&after.0),
-            Row(&told.flows)
+            Row(&flows_of(&given))
         )?;
-        Ok(told)
+        Ok(given)
     }
 
     pub fn at(&self, place: usize) -> u64 {
@@ -97,12 +84,18 @@ impl Call {
     }
 }
 
-impl Told {
-    // Every number of an answer: number and place, the record after, the flows.
-    pub fn add(&self, sum: &mut Checksum, after: &SubBasin) {
-        sum.add_row(&[self.number, self.place]);
-        sum.add_record(after);
-        sum.add_row(&self.flows);
+// Every number of an answer: number and place, the record after, the flows.
+pub fn add(sum: &mut Checksum, given: &Result<Flows, Refusal>, after: &SubBasin) {
+    sum.add_row(&[refusals::number(given), 0]);
+    sum.add_record(after);
+    sum.add_row(&flows_of(given));
+}
+
+// Zeros where the call is refused.
+fn flows_of(given: &Result<Flows, Refusal>) -> [u64; 9] {
+    match given {
+        Ok(f) => [f.eu, f.el, f.ed, f.rb, f.r, f.rs, f.ri, f.rg, f.q],
+        Err(_) => [0; 9],
     }
 }
 

@@ -6,6 +6,7 @@ use std::io;
 use subbasin::record::SubBasin;
 use testing::checksum::Checksum;
 use testing::ranges::Edge;
+use testing::refusals;
 
 pub fn places(rt: &impl Print, record: SubBasin) -> io::Result<()> {
     let call = Call {
@@ -32,9 +33,9 @@ fn line(rt: &impl Print, call: &Call, place: usize) -> io::Result<()> {
     ] {
         let mut here = *call;
         here.put(place, v);
-        let told = here.take();
-        print!(rt; " {}", told.number)?;
-        told.add(&mut sum, &here.record);
+        let given = here.take();
+        print!(rt; " {}", refusals::number(&given))?;
+        calls::add(&mut sum, &given, &here.record);
     }
     println!(rt; " {sum}")
 }

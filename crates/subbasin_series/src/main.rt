@@ -59,6 +59,6 @@ fn step(rt: &impl Print, record: SubBasin, rain: u64, pan: u64) -> io::Result<Su
         record,
         weather: Weather { rain, pan },
     };
-    call.print(rt)?;
+    let _ = call.print(rt)?;
     Ok(call.record)
 }

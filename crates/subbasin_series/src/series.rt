@@ -1,9 +1,11 @@
 // A series of calls, each on the record that the one before handed back, folded into a checksum.
 use crate::calls;
-use crate::calls::{Call, Told};
+use crate::calls::Call;
+use common::refusal::Refusal;
 use common::weather::Weather;
 use std::io;
 use subbasin::record::SubBasin;
+use subbasin::step::Flows;
 use testing::chance::Chance;
 use testing::checksum::Checksum;
 use testing::climate::Climate;
@@ -27,14 +29,14 @@ pub fn run(
         if i % 16 == 7 {
             astray(&mut call, i / 16, &mut sum);
         } else {
-            let told = turn(rt, &mut call, i % 2500 == 1250)?;
-            told.add(&mut sum, &call.record);
+            let given = turn(rt, &mut call, i % 2500 == 1250)?;
+            calls::add(&mut sum, &given, &call.record);
         }
     }
     Ok(sum)
 }
 
-fn turn(rt: &impl Print, call: &mut Call, shown: bool) -> io::Result<Told> {
+fn turn(rt: &impl Print, call: &mut Call, shown: bool) -> io::Result<Result<Flows, Refusal>> {
     if shown {
         call.print(rt)
     } else {
@@ -49,7 +51,7 @@ fn astray(call: &mut Call, k: usize, sum: &mut Checksum) {
     let right = call.at(place);
     let wrong = call.outside(place, k / calls::PLACES % 2 == 1);
     call.put(place, wrong);
-    let told = call.take();
-    told.add(sum, &call.record);
+    let given = call.take();
+    calls::add(sum, &given, &call.record);
     call.put(place, right);
 }

@@ -2,7 +2,7 @@
 use crate::told::Told;
 use crate::{list, singly, told};
 use basin::state::Basin;
-use basin_testing::calls::Ran;
+use basin::week::Week;
 use basin_testing::weather::FAULTS;
 use basin_testing::{calls, places};
 use forcing::list::Line;
@@ -73,7 +73,7 @@ impl Mixed {
                 self.go_on(rt, i, &ran, lines)
             }
             Way::Week => {
-                let ran = calls::week(&mut self.basin, lines);
+                let ran = week::week(&mut self.basin, lines);
                 self.go_on(rt, i, &ran, lines)
             }
             Way::Astray => {
@@ -84,7 +84,7 @@ impl Mixed {
     }
 
     // Every eighth list is printed.
-    fn go_on(&mut self, rt: &impl Print, i: u64, ran: &Ran, lines: &[Line]) -> io::Result<()> {
+    fn go_on(&mut self, rt: &impl Print, i: u64, ran: &Week, lines: &[Line]) -> io::Result<()> {
         let singly = singly::week(&mut self.beside, lines);
         if i % 8 == 0 {
             print!(rt; "{i} {}", lines.len())?;
@@ -100,7 +100,7 @@ impl Mixed {
         let mut beside = self.beside;
         places::damage(&mut basin, y, z);
         places::damage(&mut beside, y, z);
-        let ran = calls::week(&mut basin, lines);
+        let ran = week::week(&mut basin, lines);
         let singly = singly::week(&mut beside, lines);
         self.told.add(&ran, &basin, &singly, &beside);
     }

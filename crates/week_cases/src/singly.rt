@@ -1,45 +1,52 @@
-// A week's steps taken singly, with what they hand back put together.
+// A week's steps taken singly, with what they answer put together.
 use basin::state::Basin;
 use basin::step::{Report, ZEROS};
-use basin_testing::calls;
-use basin_testing::calls::{Ran, Stepped};
+use basin::week::Week;
 use basin_testing::weather::BLANK;
-use common::refusal::Refusal;
+use common::refusal::{Refusal, Refused};
 use forcing::list::Line;
 
-pub fn week(b: &mut Basin, lines: &[Line]) -> Ran {
+pub fn week(b: &mut Basin, lines: &[Line]) -> Week {
     let n = b.n;
     let long = lines.len() as u64;
-    let number = judged(b, lines);
-    if number != Refusal::LineCount.number() {
-        return untaken(number);
+    if let Some(refused) = judged(b, lines) {
+        return untaken(refused);
     }
     if n == 0 {
-        return untaken(Refusal::BadBasin.number());
+        return untaken(Refusal::BadBasin.into());
     }
     if long % n != 0 || 1000 < long / n {
-        return untaken(Refusal::LineCount.number());
+        return untaken(Refusal::LineCount.into());
     }
     steps(b, lines)
 }
 
-// A step with a wrong count, which gets 9 where the basin does, and otherwise 5.
-fn judged(b: &Basin, lines: &[Line]) -> u64 {
+// What a step with a wrong count gets, where that isn't 5.
+fn judged(b: &Basin, lines: &[Line]) -> Option<Refused> {
     let mut same = *b;
-    calls::step(&mut same, places(lines), b.n % 33 + 1).number
+    match same.step(places(lines), b.n % 33 + 1) {
+        Err(refused) if refused.why != Refusal::LineCount => Some(refused),
+        _ => None,
+    }
 }
 
 // Steps of N lines each; after a refused one there is none.
-pub fn steps(b: &mut Basin, lines: &[Line]) -> Ran {
+pub fn steps(b: &mut Basin, lines: &[Line]) -> Week {
     let n = b.n;
-    let mut ran = untaken(0);
+    let mut week = BEGUN;
     for here in lines.chunks((n as usize).max(1)) {
-        go_on(&mut ran, calls::step(b, places(here), n));
-        if ran.number != 0 {
-            break;
+        match b.step(places(here), n) {
+            Ok(report) => {
+                week.count = week.count.wrapping_add(1);
+                week.report = together(week.report, report);
+            }
+            Err(refused) => {
+                week.refusal = Some(refused);
+                break;
+            }
         }
     }
-    ran
+    week
 }
 
 // The first lines in the 32 places of a step.
@@ -49,16 +56,6 @@ fn places(lines: &[Line]) -> [Line; 32] {
         *place = *line;
     }
     places
-}
-
-// One more step, or its refusal.
-fn go_on(ran: &mut Ran, given: Stepped) {
-    ran.number = given.number;
-    ran.place = given.place;
-    if given.is_accepted() {
-        ran.count = ran.count.wrapping_add(1);
-        ran.report = together(ran.report, given.report);
-    }
 }
 
 fn together(sums: Report, last: Report) -> Report {
@@ -73,11 +70,15 @@ fn together(sums: Report, last: Report) -> Report {
     }
 }
 
-fn untaken(number: u64) -> Ran {
-    Ran {
-        number,
-        place: 0,
-        count: 0,
-        report: ZEROS,
+const BEGUN: Week = Week {
+    count: 0,
+    report: ZEROS,
+    refusal: None,
+};
+
+fn untaken(refused: Refused) -> Week {
+    Week {
+        refusal: Some(refused),
+        ..BEGUN
     }
 }

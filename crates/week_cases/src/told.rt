@@ -1,7 +1,7 @@
 // What a week hands back, as a printed row and in a checksum.
 use crate::singly;
 use basin::state::Basin;
-use basin_testing::calls::Ran;
+use basin::week::Week;
 use basin_testing::{calls, checksum};
 use forcing::list::Line;
 use std::{fmt, io};
@@ -26,7 +26,7 @@ impl Told {
     // A week, printed to end a line, and again by single steps; the basin is then the one after the week.
     pub fn week(&mut self, rt: &impl Print, b: &mut Basin, lines: &[Line]) -> io::Result<()> {
         let mut beside = *b;
-        let ran = calls::week(b, lines);
+        let ran = week::week(b, lines);
         print(rt, &ran, b)?;
         let singly = singly::week(&mut beside, lines);
         self.add(&ran, b, &singly, &beside);
@@ -34,10 +34,10 @@ impl Told {
     }
 
     // What both hand back, each with its basin.
-    pub fn add(&mut self, ran: &Ran, b: &Basin, singly: &Ran, beside: &Basin) {
-        self.weeks.add_row(&ran.numbers());
+    pub fn add(&mut self, ran: &Week, b: &Basin, singly: &Week, beside: &Basin) {
+        self.weeks.add_row(&calls::of_week(ran));
         checksum::add_basin(&mut self.weeks, b);
-        self.steps.add_row(&singly.numbers());
+        self.steps.add_row(&calls::of_week(singly));
         checksum::add_basin(&mut self.steps, beside);
     }
 }
@@ -54,6 +54,10 @@ impl fmt::Display for Told {
     }
 }
 
-pub fn print(rt: &impl Print, ran: &Ran, after: &Basin) -> io::Result<()> {
-    println!(rt; "{} {}", Row(&ran.numbers()), checksum::of_basin(after))
+pub fn print(rt: &impl Print, ran: &Week, after: &Basin) -> io::Result<()> {
+    println!(rt;
+        "{} {}",
+        Row(&calls::of_week(ran)),
+        checksum::of_basin(after)
+    )
 }

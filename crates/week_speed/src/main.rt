@@ -102,7 +102,7 @@ fn week(way: Way, roots: &Roots, b: &mut Basin, days: &[Line; 64], lines: &[Line
     match way {
         Way::Idle => {}
         Way::Week => {
-            calls::week(b, &lines[..long]);
+            week::week(b, &lines[..long]);
         }
         Way::Steps => {
             for j in 0..count {
