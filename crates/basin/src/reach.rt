@@ -15,10 +15,10 @@ pub struct Reach {
     pub content: u64,
 }
 
-// How many words a reach has in the file, and their names: record::NAME_BYTES each, blanks at the end.
+// How many words a reach has in the file, and their names.
 pub const WORDS: u64 = 3;
 
-pub const NAMES: [u8; 15] = *b"c0   c1   next ";
+pub const NAMES: [&str; 3] = ["c0", "c1", "next"];
 
 impl Reach {
     // The number of its first word outside its range, if there is one; j is the reach's own number, from 1.

@@ -7,7 +7,6 @@ use common::refusal::{Refusal, Refused};
 use std::fmt::InlineText;
 use std::{fmt, io};
 use subbasin::record;
-use subbasin::record::NAME_BYTES;
 
 const SUB_WORDS: u64 = record::WORDS as u64;
 
@@ -58,26 +57,17 @@ impl fmt::Display for Word {
             Word::N => write!(f, "N"),
             Word::M => write!(f, "M"),
             Word::OfSubBasin(k) => {
-                let name = name_in(&record::NAMES, (k % SUB_WORDS) as usize);
+                let name = record::NAMES[(k % SUB_WORDS) as usize];
                 let number = k / SUB_WORDS + 1;
                 write!(f, "{name} of sub-basin {number}")
             }
             Word::OfReach(k) => {
-                let name = name_in(&reach::NAMES, (k % reach::WORDS) as usize);
+                let name = reach::NAMES[(k % reach::WORDS) as usize];
                 let number = k / reach::WORDS + 1;
                 write!(f, "{name} of reach {number}")
             }
         }
     }
-}
-
-// Name k of names, without the blanks at its end.
-fn name_in(names: &[u8], k: usize) -> &str
-    requires { NAME_BYTES * k + NAME_BYTES ≤ length names.now }
-{
-    let first = NAME_BYTES * k;
-    let name = &names[first..first + NAME_BYTES];
-    str::from_utf8(name).unwrap_or("").trim_end()
 }
 
 // A part step at the end: count of the size bytes of step `step`.

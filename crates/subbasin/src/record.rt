@@ -54,13 +54,13 @@ pub struct SubBasin {
     pub channel: u64,
 }
 
-// How many words a record has in the file, and their names: NAME_BYTES each, blanks at the end.
+// How many words a record has in the file, and their names.
 pub const WORDS: usize = 23;
 
-pub const NAME_BYTES: usize = 5;
-
-pub const NAMES: [u8; 115] =
-    *b"area K    UM   LM   DM   C    BN   IM   SM   XN   KI   KG   CI   CG   CS   L    REACHWU   WL   WD   G    VI   VG   ";
+pub const NAMES: [&str; WORDS] = [
+    "area", "K", "UM", "LM", "DM", "C", "BN", "IM", "SM", "XN", "KI", "KG", "CI", "CG", "CS", "L",
+    "REACH", "WU", "WL", "WD", "G", "VI", "VG",
+];
 
 // VI and VG: the most in the file, and the most in a basin handed in.
 pub const MOST_START: u64 = 1000000;
