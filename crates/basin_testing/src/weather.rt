@@ -1,5 +1,5 @@
 // Lines, drawn, and bad ones.
-use forcing::list::{Line, Reading};
+use forcing::list::{BLANK, Line, Reading};
 use testing::chance::Chance;
 use testing::climate::Climate;
 
@@ -31,12 +31,6 @@ pub fn drawn<const N: usize>(i: u64, chance: &mut Chance) -> [Line; N] {
     }
     lines
 }
-
-// What a place holds where no line is.
-pub const BLANK: Line = Line {
-    rain: Reading::Missing,
-    pan: 0.0,
-};
 
 // The three steps of case A, one line each.
 pub const CASE_A: [Line; 3] = [

@@ -1,4 +1,4 @@
-// What every crate rests on: shares, amounts, the words of a byte slice, and the weather of one line.
+// What every crate rests on: shares, amounts, the words of a byte slice, the weather of one line, and why a call is refused.
 #![tactic(auto)]
 
 pub mod amounts;

@@ -2,20 +2,30 @@
 ghost use Rattle.std.specs.Prelude.{◌≡◌};
 ghost use Rattle.common.specs.Refusals.{number_of};
 
-// What a refusal's number stands for.
+// What is wrong, by its number.
 #[derive(Clone, Copy, Debug, PartialEq, Eq)]
 pub enum Refusal {
-    FewBytes,
-    Counts,
-    Length,
-    Word,
-    LineCount,
-    RainMissing,
-    BadNumber,
-    AboveLimit,
-    BadBasin,
-    OutOfRange,
-    NoSuchSubBasin,
+    // A basin file of fewer than 8 bytes.
+    FewBytes = 1,
+    // Its N or M.
+    Counts = 2,
+    // Its length.
+    Length = 3,
+    // A word of a record.
+    Word = 4,
+    // A count of lines that isn't N.
+    LineCount = 5,
+    RainMissing = 6,
+    // No number, an infinity, or below zero.
+    BadNumber = 7,
+    // Above the limit of rain or pan.
+    AboveLimit = 8,
+    // A basin handed in.
+    BadBasin = 9,
+    // An argument of a curve, store or sub-basin call.
+    OutOfRange = 10,
+    // A question about a sub-basin that isn't there.
+    NoSuchSubBasin = 11,
 }
 
 impl Refusal {
@@ -23,19 +33,7 @@ impl Refusal {
     pub fn number(self) -> u64
         ensures { result ≡ number_of self }
     {
-        match self {
-            Refusal::FewBytes => 1,
-            Refusal::Counts => 2,
-            Refusal::Length => 3,
-            Refusal::Word => 4,
-            Refusal::LineCount => 5,
-            Refusal::RainMissing => 6,
-            Refusal::BadNumber => 7,
-            Refusal::AboveLimit => 8,
-            Refusal::BadBasin => 9,
-            Refusal::OutOfRange => 10,
-            Refusal::NoSuchSubBasin => 11,
-        }
+        self as u64
     }
 }
 

@@ -103,14 +103,15 @@ impl Numbers {
 
 impl From<Result<u64, Refusal>> for Numbers {
     fn from(given: Result<u64, Refusal>) -> Numbers {
-        Numbers::Value([refusals::number(&given), 0, given.unwrap_or(0)])
+        let [number, place] = refusals::told(&given);
+        Numbers::Value([number, place, given.unwrap_or(0)])
     }
 }
 
 impl From<Taken> for Numbers {
     fn from(given: Taken) -> Numbers {
         let Store { a, g, content } = given.store;
-        let number = refusals::number(&given.outflow);
-        Numbers::Store([number, 0, a, g, content, given.outflow.unwrap_or(0)])
+        let [number, place] = refusals::told(&given.outflow);
+        Numbers::Store([number, place, a, g, content, given.outflow.unwrap_or(0)])
     }
 }

@@ -33,7 +33,7 @@ fn file_line(bytes: &[u8], k: usize) -> Line
     line_of(kind, rain, pan)
 }
 
-// The line of three words: kind, rain bits, pan bits. from_bits takes no NaN's pattern.
+// The line of three words: kind, rain bits, pan bits, as the definition names it. from_bits takes no NaN's pattern.
 #[tactic(auto, unfolding(crate::specs::File::line_of))]
 pub fn line_of(kind: u32, rain: u32, pan: u32) -> Line
     ensures { result ≡ line_of kind rain pan }
@@ -44,6 +44,7 @@ pub fn line_of(kind: u32, rain: u32, pan: u32) -> Line
     }
 }
 
+// Kinds are numbers in the file: document 01.
 fn reading_of(kind: u32, rain: f32) -> Reading
     ensures { result ≡ reading_of kind rain }
 {

@@ -34,6 +34,12 @@ pub struct Line {
     pub pan: f32,
 }
 
+// Where there is no line.
+pub const BLANK: Line = Line {
+    rain: Reading::Missing,
+    pan: 0.0,
+};
+
 // What the lines of one step came to: how many are estimated, and the weather by sub-basin.
 #[derive(Clone, Copy)]
 pub struct Readings {
@@ -53,8 +59,8 @@ pub fn read(lines: [Line; 32], count: u64, n: u64) -> Result<Readings, Refused>
     }
     let mut weather = [CALM; 32];
     let mut estimated = 0;
+    // By number, and not over the lines: n may be above 32, and there is no line past the 32nd: its rain is missing.
     for at in 0..n {
-        // There is no line past the 32nd: its rain is missing.
         if 31 < at {
             return Err(Refused {
                 why: Refusal::RainMissing,

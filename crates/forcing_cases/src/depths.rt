@@ -112,5 +112,6 @@ fn name_of(said: Gauge) -> &'static str {
 
 // Number, place and depth.
 fn told(given: Result<u64, Refusal>) -> [u64; 3] {
-    [refusals::number(&given), 0, given.unwrap_or(0)]
+    let [number, place] = refusals::told(&given);
+    [number, place, given.unwrap_or(0)]
 }

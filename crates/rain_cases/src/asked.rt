@@ -57,13 +57,9 @@ pub fn own_told(s: &SubBasin, pan: u64, wanted: u64) -> [u64; 4] {
 
 // Number, place, whether the answer is none, and whether its rain does; of a refusal or none the last is what stands for the rain.
 fn told(given: &Answer, s: &SubBasin, pan: u64, wanted: u64) -> [u64; 4] {
+    let [number, place] = refusals::told(given);
     let last = rain_of(given).map_or(0, |rain| u64::from(does(s, rain, pan, wanted)));
-    [
-        refusals::number(given),
-        0,
-        u64::from(*given == Ok(None)),
-        last,
-    ]
+    [number, place, u64::from(*given == Ok(None)), last]
 }
 
 fn rain_of(given: &Answer) -> Option<u64> {

@@ -185,12 +185,13 @@ fn turn(way: Way, state: State, mut s: SubBasin, sum: &mut Checksum) {
 }
 
 fn add_call(sum: &mut Checksum, given: Result<Flows, Refusal>) {
-    sum.add(refusals::number(&given));
+    sum.add(refusals::told(&given)[0]);
     sum.add_row(&given.map_or([0; 3], |flows| [flows.rb, flows.r, flows.q]));
 }
 
 fn add_answer(sum: &mut Checksum, given: Result<Option<u64>, Refusal>) {
     let none = u64::from(given == Ok(None));
     let rain = given.unwrap_or(None).unwrap_or(0);
-    sum.add_row(&[refusals::number(&given), 0, none, rain]);
+    sum.add_row(&refusals::told(&given));
+    sum.add_row(&[none, rain]);
 }

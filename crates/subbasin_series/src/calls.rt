@@ -31,8 +31,8 @@ impl Call {
         let before = Numbers::from(&self.record);
         let given = self.take();
         let after = Numbers::from(&self.record);
-        let number = refusals::number(&given);
-        let row = [self.weather.rain, self.weather.pan, number, 0];
+        let [number, place] = refusals::told(&given);
+        let row = [self.weather.rain, self.weather.pan, number, place];
         println!(rt;
             "step{}{}{}{}",
             Row(&before.0),
@@ -86,7 +86,7 @@ impl Call {
 
 // Every number of an answer: number and place, the record after, the flows.
 pub fn add(sum: &mut Checksum, given: &Result<Flows, Refusal>, after: &SubBasin) {
-    sum.add_row(&[refusals::number(given), 0]);
+    sum.add_row(&refusals::told(given));
     sum.add_record(after);
     sum.add_row(&flows_of(given));
 }

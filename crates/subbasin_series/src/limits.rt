@@ -34,7 +34,7 @@ fn line(rt: &impl Print, call: &Call, place: usize) -> io::Result<()> {
         let mut here = *call;
         here.put(place, v);
         let given = here.take();
-        print!(rt; " {}", refusals::number(&given))?;
+        print!(rt; " {}", refusals::told(&given)[0])?;
         calls::add(&mut sum, &given, &here.record);
     }
     println!(rt; " {sum}")

@@ -11,7 +11,7 @@ use basin::week::Week;
 use common::refusal::Refusal;
 use curve::capacity;
 use curve::capacity::Roots;
-use forcing::list::{Line, Reading};
+use forcing::list::{BLANK, Line};
 
 // The most steps of a week.
 pub const MOST_STEPS: u64 = 1000;
@@ -26,7 +26,7 @@ pub fn week(b: &mut Basin, lines: &[Line]) -> Week
     week_with(&roots, b, lines)
 }
 
-// The same with a table of roots that is lent (curve::capacity).
+// The same with a table of roots that is lent (curve::capacity). `week` is this with the printed one, which a host of one week needn't hold.
 pub fn week_with(roots: &Roots, b: &mut Basin, lines: &[Line]) -> Week
     ensures answers { as_ran b.new result ≡ week_call b.old lines.now }
     ensures judges { WeekJudged b.old lines.now (as_ran b.new result) }
@@ -56,8 +56,8 @@ pub fn week_with(roots: &Roots, b: &mut Basin, lines: &[Line]) -> Week
     week
 }
 
-// Whether a list of so many lines can be taken: 9, and then 5. The basin is a copy, since of a lent one nothing tells how long its arrays are,
-// on which the balance rests.
+// Whether a list of so many lines can be taken: 9, and then 5. The basin is a copy: of a lent one (tried) nothing tells how long the lag lines
+// in its array are, on which the balance rests.
 fn judge(b: Basin, long: usize) -> Result<(), Refusal>
     ensures fits { IfOk result (λ _. Fits b long) }
     ensures refuses { IfErr result (Refuses b long) }
@@ -79,11 +79,6 @@ fn lines_of(step: &[Line]) -> [Line; 32]
 {
     std::array::from_fn(|k| step.get(k).copied().unwrap_or(BLANK))
 }
-
-const BLANK: Line = Line {
-    rain: Reading::Missing,
-    pan: 0.0,
-};
 
 // Summed reports, with the last one's content.
 fn join(sums: Report, last: Report) -> Report

@@ -1,7 +1,7 @@
 // Lists of lines, the first ones of a buffer.
 use basin_testing::weather;
-use basin_testing::weather::{BLANK, Fault};
-use forcing::list::Line;
+use basin_testing::weather::{Fault};
+use forcing::list::{BLANK, Line};
 use testing::chance::Chance;
 
 const MOST: usize = 2048;

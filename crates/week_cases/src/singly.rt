@@ -2,9 +2,8 @@
 use basin::state::Basin;
 use basin::step::{Report, ZEROS};
 use basin::week::Week;
-use basin_testing::weather::BLANK;
 use common::refusal::{Refusal, Refused};
-use forcing::list::Line;
+use forcing::list::{BLANK, Line};
 
 pub fn week(b: &mut Basin, lines: &[Line]) -> Week {
     let n = b.n;

@@ -4,11 +4,12 @@
 #![tactic(auto)]
 
 use basin::state::Basin;
-use basin_testing::weather::BLANK;
+use basin::step::Report;
 use basin_testing::{calls, checksum, weather};
+use common::refusal::Refused;
 use curve::capacity;
 use curve::capacity::Roots;
-use forcing::list::Line;
+use forcing::list::{BLANK, Line};
 use std::{env, fmt, io};
 use testing::chance::Chance;
 use testing::choices::Choice;
@@ -104,16 +105,21 @@ fn week(way: Way, roots: &Roots, b: &mut Basin, days: &[Line; 64], lines: &[Line
         Way::Week => {
             week::week(b, &lines[..long]);
         }
-        Way::Steps => {
-            for j in 0..count {
-                let _ = b.step(lines_of(days, j, b.n), b.n);
-            }
-        }
-        Way::Lent => {
-            for j in 0..count {
-                let _ = b.step_with(roots, lines_of(days, j, b.n), b.n);
-            }
-        }
+        Way::Steps => steps(b, days, count, |b, here, n| b.step(here, n)),
+        Way::Lent => steps(b, days, count, |b, here, n| b.step_with(roots, here, n)),
+    }
+}
+
+fn steps<F: Fn(&mut Basin, [Line; 32], u64) -> Result<Report, Refused>>(
+    b: &mut Basin,
+    days: &[Line; 64],
+    count: u64,
+    step: F,
+)
+    requires { F.IsAlwaysCallable step }
+{
+    for j in 0..count {
+        let _ = step(b, lines_of(days, j, b.n), b.n);
     }
 }
 

@@ -11,13 +11,9 @@ use Rattle.std.proofs.lemmas.Bool.Decides.{nat_tests}
 use lib.IntN.{ℤ}
 use lib.Ieee.{Float, nan, inf, fin, up, down}
 use lib.Ieee.Fits.{down_pos}
-use Rattle.std.specs.Prelude.{Result, Ok, Err}
-use Rattle.common.specs.declared.refusal.Refusal.{Refusal}
-use Rattle.common.specs.Refusals.{number_of as refusal_number}
-use Rattle.common.proofs.Refusals.{number_some}
 use Rattle.common.proofs.Limits.{refuted, parts}
 use Rattle.forcing.specs.declared.depth.Gauge.{Gauge}
-use Rattle.forcing.specs.Depth.{Depth, numerator, denominator, nearest, depth_of, limit_of, from_zero_to, as_depth}
+use Rattle.forcing.specs.Depth.{Depth, numerator, denominator, nearest, depth_of, limit_of, from_zero_to}
 use Rattle.forcing.specs.Depth.{unfit, above_limit, number_of, answer, answer_by, depth_call, JudgedNumber}
 
 pub number_test : (limit : ℕ) (x : Float) → eqb (number_of limit x) 0 ≡ from_zero_to limit x
@@ -110,25 +106,3 @@ module _ (x : Float) (said : Gauge) where
   call_depth_le z =
       let inside = call_judged.accepted.0 z in
       rw (depth_call_accepted x said inside) (depth_le (limit_of said) x inside)
-
--- ---- what a call's result is, by the answer d that it stands for
-
-module _ {d : Depth} where
-  -- an accepted one is `Ok` of the depth
-  pub depth_accepted : (r : Result ℕ Refusal) → as_depth r ≡ d → d.number ≡ 0 → r ≡ Ok d.depth
-  depth_accepted (Ok v) e z = ap (λ (p : Depth). Ok p.depth) e
-  depth_accepted (Err why) e z = absurd (omega (arith, number_some why, ap (λ (p : Depth). p.number) e))
-
-  -- a refused one is `Err` of its number
-  pub depth_refused : (r : Result ℕ Refusal) → as_depth r ≡ d → (d.number ≡ 0 → ⊥) → (why : Refusal) × (r ≡ Err why) × (refusal_number why ≡ d.number)
-  depth_refused (Ok v) e b = absurd (b (sym (ap (λ (p : Depth). p.number) e)))
-  depth_refused (Err why) e b = (why, refl, ap (λ (p : Depth). p.number) e)
-
-  -- the same in a caller's arms
-  pub depth_ok : (v : ℕ) → as_depth (Ok v) ≡ d → (d.number ≡ 0) × (v ≡ d.depth)
-  depth_ok v e = (sym (ap (λ (p : Depth). p.number) e), ap (λ (p : Depth). p.depth) e)
-
-  pub depth_err : (why : Refusal) → as_depth (Err why) ≡ d → (d.number ≡ 0 → ⊥) × (refusal_number why ≡ d.number)
-  depth_err why e =
-      let n : refusal_number why ≡ d.number = ap (λ (p : Depth). p.number) e in
-      (λ z. omega (arith, number_some why), n)

@@ -9,20 +9,15 @@ use native.Mathlib.Omega.{arith}
 use borrow.Author.Tests.{eq-eqb, ne_eqb, eqb-true, eqb-false}
 use lib.Dec.{eqb}
 use lib.ListN.{length, get_or, replicate, get_or-eq_default}
-use Rattle.std.specs.Prelude.{Result, Ok, Err}
 use Rattle.std.proofs.lemmas.Bool.Decides.{nat_tests}
-use Rattle.common.specs.declared.refusal.Refused.{Refused}
 use Rattle.common.specs.declared.weather.Weather.{Weather}
-use Rattle.common.specs.Refusals.{number_of}
 use Rattle.common.specs.Weather.{calm, WeatherIn}
 use Rattle.common.specs.Loops.{table, every, first_bad}
-use Rattle.common.proofs.Refusals.{number_some}
 use Rattle.common.proofs.Limits.{by_test, both, parts}
 use Rattle.common.proofs.amounts.AmountLaws.{get_or_repeat}
 use Rattle.common.proofs.Loops.{table_length, table_in, table_past, filled_same, sum_same, sum_bound, every_in, every_at, first_bad_same, first_bad_found}
 use Rattle.forcing.specs.declared.list.Line.{Line}
-use Rattle.forcing.specs.declared.list.Readings.{Readings}
-use Rattle.forcing.specs.List.{Forcing, as_forcing}
+use Rattle.forcing.specs.List.{Forcing}
 use Rattle.forcing.specs.List.{line_at, weather_of, line_inside, Inside, is_inside, estimated_of}
 use Rattle.forcing.specs.List.{line_number, first_bad_line, accepted, refusal, judged_lines, reading, ForFirstBad, JudgedList}
 use Rattle.forcing.proofs.list.LineLaws.{estimated_one, line_test, rain_first, line_weather}
@@ -185,27 +180,3 @@ module _ (lines : List Line) (count n : ℕ) where
         finds = finds;
         looks = looks;
       }
-
--- ---- what a call's result is, by the forcing f that it stands for
-
-module _ {f : Forcing} where
-  -- an accepted one is `Ok` of the readings of f
-  pub forcing_accepted : (r : Result Readings Refused) → as_forcing r ≡ f → f.number ≡ 0
-      → r ≡ Ok (record { estimated = f.estimated; weather = f.weather })
-  forcing_accepted (Ok v) e z = ap (λ (g : Forcing). Ok (record { estimated = g.estimated; weather = g.weather })) e
-  forcing_accepted (Err e) h z = absurd (omega (arith, number_some e.why, ap (λ (g : Forcing). g.number) h))
-
-  -- a refused one is `Err` of its number and place
-  pub forcing_refused : (r : Result Readings Refused) → as_forcing r ≡ f → (f.number ≡ 0 → ⊥)
-      → (e : Refused) × (r ≡ Err e) × (number_of e.why ≡ f.number) × (e.place ≡ f.place)
-  forcing_refused (Ok v) e b = absurd (b (sym (ap (λ (g : Forcing). g.number) e)))
-  forcing_refused (Err e) h b = (e, refl, ap (λ (g : Forcing). g.number) h, ap (λ (g : Forcing). g.place) h)
-
-  -- the same in a caller's arms
-  pub forcing_ok : (v : Readings) → as_forcing (Ok v) ≡ f → (f.number ≡ 0) × (v.estimated ≡ f.estimated) × (v.weather ≡ f.weather)
-  forcing_ok v e = (sym (ap (λ (g : Forcing). g.number) e), ap (λ (g : Forcing). g.estimated) e, ap (λ (g : Forcing). g.weather) e)
-
-  pub forcing_err : (e : Refused) → as_forcing (Err e) ≡ f → (f.number ≡ 0 → ⊥) × (number_of e.why ≡ f.number) × (e.place ≡ f.place)
-  forcing_err e h =
-      let n : number_of e.why ≡ f.number = ap (λ (g : Forcing). g.number) h in
-      (λ z. omega (arith, number_some e.why), n, ap (λ (g : Forcing). g.place) h)
