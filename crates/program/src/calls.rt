@@ -29,6 +29,7 @@ pub fn read_full<R: io::Read>(from: &mut R, bytes: &mut [u8]) -> io::Result<usiz
     ensures { ReadsAtMost result bytes.new }
 {
     let mut count = 0;
+    // A while: count rises by what a read moved, not by one.
     while count < bytes.len() {
         match read_some(from, &mut bytes[count..])? {
             0 => break,
@@ -51,6 +52,7 @@ pub fn write_full<W: io::Write>(to: &mut W, bytes: &[u8]) -> Result<(), Unwritte
     ensures bytes { OnOk result (Appends (W.contents to.old) (W.contents to.new) bytes.now) }
 {
     let mut count = 0;
+    // A while: count rises by what a write moved, not by one.
     while count < bytes.len() {
         match write_some(to, &bytes[count..]) {
             Ok(more) => count += more,

@@ -21,6 +21,7 @@ pub struct Streams<'a, W: io::Write, E: io::Write> {
 
 impl<W: io::Write, E: io::Write> Streams<'_, W, E> {
     // Prints lines, the first of which is line `first`, and answers whether it could; where not, that is said.
+    // A bool, no Result: what failed is said here, and its callers answer an Ended, so none hands it on by `?`.
     pub fn print(&mut self, lines: &Output, first: u64) -> bool
         requires first_bound { first < 2 ^ 63 }
         requires lines { Lines first lines.now }

@@ -38,7 +38,7 @@ pub fn run<R: io::Read, W: io::Write, E: io::Write>(
     let mut input = [0u8; 24576];
     let mut kept = 0;
     let mut done: u64 = 0;
-    for _reads in 0..READS {
+    for _ in 0..READS {
         let count = match read_after(from, &mut input, kept, whole) {
             Ok(0) => break,
             Ok(count) => count,

@@ -8,6 +8,7 @@ use std::fmt::InlineText;
 use std::{fmt, io};
 use subbasin::record;
 
+// record::WORDS is the length of arrays; the file's counts are u64.
 const SUB_WORDS: u64 = record::WORDS as u64;
 
 // A load of bytes that was refused.

@@ -1,8 +1,9 @@
 // The output: text that is put together before it is printed.
-ghost use Rattle.std.specs.Prelude.{◌≡◌, List, ℕ, [], ◌++◌, ◌+◌, ◌*◌, ◌≤◌, length, take};
+ghost use Rattle.std.specs.Prelude.{◌≡◌, List, ℕ, [], ◌++◌, ◌+◌, ◌*◌, ◌≤◌, length};
 ghost use Rattle.program.specs.Print.{decimal};
 ghost use Rattle.program.specs.Workers.{numbers_text};
 
+use arrayvec::ArrayString;
 use std::marker::Model;
 
 // Room for the lines of 64 steps, of at most 129 bytes each.
@@ -10,17 +11,14 @@ pub const ROOM: usize = 8256;
 
 #[derive(Drop)]
 pub struct Output {
-    bytes: [u8; ROOM],
-    len: usize,
+    text: ArrayString<ROOM>,
 }
 
 // Clauses see the text.
 impl Model for Output {
     ghost Value = { List ℕ };
 
-    ghost view = { λ out. take out.len out.bytes };
-
-    ghost invariant = { λ out. out.len ≤ 8256 };
+    ghost view = { λ out. out.text.bytes };
 }
 
 impl Output {
@@ -28,22 +26,20 @@ impl Output {
         ensures { result ≡ [] }
     {
         Output {
-            bytes: [0; ROOM],
-            len: 0,
+            text: ArrayString::new(),
         }
     }
 
     pub fn as_bytes(&self) -> &[u8]
         ensures { result.now ≡ self.now }
     {
-        let all = &self.bytes[..];
-        &all[..self.len]
+        self.text.as_str().as_bytes()
     }
 
     pub fn clear(&mut self)
         ensures { self.new ≡ [] }
     {
-        self.len = 0;
+        self.text.clear();
     }
 
     // A word, and after it numbers with a blank before each; the line ends there.
@@ -74,9 +70,6 @@ impl Output {
         ensures text { self.new ≡ self.old ++ text.now }
         ensures len { length self.new ≡ length self.old + length text.now }
     {
-        let end = self.len + text.len();
-        let all = &mut self.bytes[..];
-        all[self.len..end].copy_from_slice(text.as_bytes());
-        self.len = end;
+        self.text.push_str(text);
     }
 }

@@ -6,7 +6,6 @@ use common::refusal::{Refusal, Refused};
 use program::say;
 use std::fmt::InlineText;
 use std::io;
-use testing::lines;
 
 const CASES: u8 = 18;
 
@@ -31,7 +30,7 @@ fn cases(rt: HostRuntime) -> io::Result<()> {
 
 // The case in the folder of this number.
 fn run(rt: HostRuntime, number: u8) -> io::Result<()> {
-    lines::line(&rt, b"case", &[number as u64])?;
+    println!(rt; "case {number}")?;
     let basin = InlineText::<14>::of(format_args!("{number:02}/basin.bin"));
     let forcing = InlineText::<14>::of(format_args!("{number:02}/forcing.bin"));
     let ended = program::account(
@@ -41,7 +40,7 @@ fn run(rt: HostRuntime, number: u8) -> io::Result<()> {
         basin.as_str().as_bytes(),
         forcing.as_str().as_bytes(),
     );
-    lines::line(&rt, b"status", &[u64::from(u8::from(ended))])
+    println!(rt; "status {}", u8::from(ended))
 }
 
 // What is said of a file with n sub-basins and m reaches, of every word of it last.

@@ -4,8 +4,8 @@ use Rattle.program.specs.Workers.{of_steps}
 use Rattle.program.proofs.run.RunLaws.{run_begin, run_turn, run_end, run_failed}
 use Rattle.program.proofs.run.run.Goals as goal
 
-pub loop-reads-init : goal.loop-reads-init
-loop-reads-init g c = record {
+pub loop-init : goal.loop-init
+loop-init g c = record {
   input_long = refl;
   done_most = omega arith;
   lines = [];
@@ -15,25 +15,25 @@ loop-reads-init g c = record {
 }
 
 pub returns-in-Err-clause-run : goal.returns-in-Err-clause-run
-returns-in-Err-clause-run g c = run_failed c.loop-reads.invariant.running refl
+returns-in-Err-clause-run g c = run_failed c.loop.invariant.running refl
 
 pub print-requires-clause-lines : goal.print-requires-clause-lines
 print-requires-clause-lines g c = of_steps _ _ _ refl c.take_steps-steps.ensures.lines_are
 
 pub returns-then-not-print-clause-run : goal.returns-then-not-print-clause-run
 returns-then-not-print-clause-run g c =
-    let at = c.loop-reads.invariant in
+    let at = c.loop.invariant in
     let read = c.read_after in
-    let room : c.loop-reads.kept + c.in-Ok.count ≤ length read.new.input = omega (arith, c.in-Ok.ensures.count_bound, read.auto.input, at.input_long, c.requires.1) in
+    let room : c.loop.kept + c.in-Ok.count ≤ length read.new.input = omega (arith, c.in-Ok.ensures.count_bound, read.auto.input, at.input_long, c.requires.1) in
     run_failed
     (run_turn at.running read.new.input c.in-Ok.count read.ensures.input_unchanged room c.take_steps-steps.ensures c.copy_within.ensures.after)
     refl
 
-pub loop-reads-preserved : goal.loop-reads-preserved
-loop-reads-preserved g c =
-    let at = c.loop-reads.invariant in
+pub loop-preserved : goal.loop-preserved
+loop-preserved g c =
+    let at = c.loop.invariant in
     let read = c.read_after in
-    let room : c.loop-reads.kept + c.in-Ok.count ≤ length read.new.input = omega (arith, c.in-Ok.ensures.count_bound, read.auto.input, at.input_long, c.requires.1) in
+    let room : c.loop.kept + c.in-Ok.count ≤ length read.new.input = omega (arith, c.in-Ok.ensures.count_bound, read.auto.input, at.input_long, c.requires.1) in
     record {
       input_long = omega (arith, at.input_long, read.auto.input, c.copy_within.ensures.len);
       done_most = omega (arith, at.done_most, c.take_steps-steps.ensures.few);
@@ -46,6 +46,6 @@ loop-reads-preserved g c =
 
 pub returns-clause-run : goal.returns-clause-run
 returns-clause-run g c =
-    let at = c.loop-reads.invariant in
+    let at = c.loop.invariant in
     let ended = c.end_run.ensures in
     run_end at.running refl ended.ends (λ h. ended.part_put) (λ h. Appends-trans _ _ _ _ _ at.printed (ended.printed h))

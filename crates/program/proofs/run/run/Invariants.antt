@@ -4,10 +4,10 @@ use Rattle.std.specs.Io.KnownBytes.{Appends}
 use Rattle.program.proofs.run.RunLaws.{Running}
 use Rattle.program.proofs.run.run.Given as goal
 
-abbrev pub invariant-loop-reads : goal.invariant-loop-reads
-invariant-loop-reads g l = record {
+abbrev pub invariant-loop : goal.invariant-loop
+invariant-loop g l = record {
   input_long : length l.input ≡ 24576;
-  done_most : l.done ≤ 64 * l._reads;
+  done_most : l.done ≤ 64 * l.counter;
   lines : List ℕ;
   running : Running l.initial.basin l.n l.input l.kept l.done l.basin lines;
   same_reference : l.streams.to.ghost_name ≡ l.initial.streams.to.ghost_name;
