@@ -27,6 +27,7 @@ pub fn rows(rt: &impl Print) -> io::Result<()> {
     Ok(())
 }
 
+// `full` says whether the last basin is printed besides.
 fn row(rt: &impl Print, plan: Plan, chance: &mut Chance, full: bool) -> io::Result<()> {
     let mut b = calls::started(plan, chance);
     let sum = series::run(rt, &mut b, chance, 320)?;

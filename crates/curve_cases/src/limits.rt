@@ -24,7 +24,7 @@ pub fn print(rt: &impl Print) -> io::Result<()> {
     Ok(())
 }
 
-// Case i: each argument is chosen by a digit of i, the first by the lowest.
+// Case i: each argument is chosen by a digit of i, the first by the lowest. Nested loops would be three sets of four, one for each kind of call.
 fn case(call: Call, i: usize) -> [u64; 4] {
     let share = ends(65536)[i % 4];
     let c = ends(500000)[i % 4];
@@ -64,7 +64,7 @@ const PLAIN: [(Call, [u64; 4]); 7] = [
     (Call::Store, [1, 1, 1, 1]),
 ];
 
-// Each argument in turn at the greatest u64.
+// Each argument in turn at the greatest u64, by its index in a copy of the row.
 pub fn far(rt: &impl Print) -> io::Result<()> {
     for (call, plain) in PLAIN {
         for k in 0..call.arity() {

@@ -77,7 +77,7 @@ fn size_of(n: u64, m: u64) -> usize {
     }
 }
 
-// Every word below, at the ends of and above its range, printed where asked for.
+// Every word below, at the ends of and above its range; `shown` says whether a line for each is printed besides.
 pub fn words(rt: &impl Print, choice: Choice, n: u64, m: u64, shown: bool) -> io::Result<()> {
     let file = good(choice, n, m, &mut Chance::new());
     let mut sum = Checksum::new();

@@ -73,7 +73,7 @@ impl Call {
         }
     }
 
-    // One above the most, or below the least where that is asked for and there is one.
+    // One above the most, or below the least where that is asked for and there is one: a draw chooses, so it is a bool.
     pub fn outside(&self, place: usize, below: bool) -> u64 {
         let range = self.range_of(place);
         if below && 0 < range.least {

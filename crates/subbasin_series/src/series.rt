@@ -36,6 +36,7 @@ pub fn run(
     Ok(sum)
 }
 
+// `shown` says whether a line is printed besides, which is no step of another kind.
 fn turn(rt: &impl Print, call: &mut Call, shown: bool) -> io::Result<Result<Flows, Refusal>> {
     if shown {
         call.print(rt)

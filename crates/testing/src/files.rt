@@ -22,7 +22,7 @@ pub fn words(n: u64, m: u64) -> usize
     2 + record::WORDS * (n % 33) as usize + REACH_WORDS * (m % 32) as usize
 }
 
-// The file is the first bytes of the buffer, size of them.
+// The file is the first bytes of the buffer, size of them: there is no heap, and tests need a byte past its end.
 #[derive(Clone, Copy)]
 pub struct File {
     pub bytes: [u8; BYTES],

@@ -1,5 +1,5 @@
 // Numbers as they are printed: in decimal with a space before each.
-use std::{fmt, io};
+use std::fmt;
 
 #[derive(Clone, Copy)]
 pub struct Row<'a>(pub &'a [u64]);
@@ -11,10 +11,4 @@ impl fmt::Display for Row<'_> {
         }
         Ok(())
     }
-}
-
-// A whole line that begins with a name.
-pub fn line(rt: &impl Print, name: &[u8], numbers: &[u64]) -> io::Result<()> {
-    rt.write_all(name)?;
-    println!(rt; "{}", Row(numbers))
 }

@@ -1,6 +1,6 @@
-// Lists of lines, the first ones of a buffer.
+// Lists of lines, the first ones of a buffer, as there is no heap.
 use basin_testing::weather;
-use basin_testing::weather::{Fault};
+use basin_testing::weather::Fault;
 use forcing::list::{BLANK, Line};
 use testing::chance::Chance;
 

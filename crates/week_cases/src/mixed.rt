@@ -20,7 +20,7 @@ struct Mixed {
     taken: u64,
 }
 
-// A list for every size and shape; the choices go round beside them.
+// A list for every size and shape; the choices go round beside them, by the same number, so no loops nest.
 pub fn rows(rt: &impl Print) -> io::Result<()> {
     let mut chance = Chance::new();
     for k in 0..24usize {
