@@ -100,6 +100,7 @@ impl Record for SubBasin {
         words.into()
     }
 
+    #[tactic(auto, unfolding(subbasin::specs::Record::first_outside))]
     fn first_out(&self, _number: u64, m: u64) -> Option<usize> {
         self.first_outside(m, MOST_START)
     }
