@@ -189,7 +189,7 @@ impl SubBasin {
         self.channel <= MOST_CONTENT && self.line.allowed()
     }
 
-    // Whether the record is all zeros.
+    // Whether the record is all zeros. By its words: a derived `==` would be one of four structs, and nothing else asks for it.
     #[tactic(auto, unfolding(crate::specs::Record::is_blank))]
     pub fn is_blank(&self) -> bool
         ensures { result ≡ is_blank self.now }
