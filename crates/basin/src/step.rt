@@ -123,6 +123,7 @@ fn step_subs(
     let mut rain = 0;
     let mut loss = 0;
     let mut held = 0;
+    // By index: `iter_mut().zip(weather)` was tried, and its proof didn't close.
     for i in 0..n as usize {
         let turn = take_turn(roots, &mut subs[i], weather[i], m)?;
         sent[turn.to as usize] += turn.q;

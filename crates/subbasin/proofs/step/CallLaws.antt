@@ -1,6 +1,6 @@
 -- The sub-basin call: accepted inside its limits, refused outside. Assumes nothing.
-use Rattle.std.specs.Prelude.{Result, Ok, Err, IsOk}
-use mathlib.Core.Path.{◌≡◌, refl, sym, ap, ◌∙◌}
+use Rattle.std.specs.Prelude.{Ok, Err}
+use mathlib.Core.Path.{◌≡◌, sym, ap, ◌∙◌}
 use mathlib.Core.Bool.{true, false, cond, ◌&&◌}
 use Prim.Native.Nat.{◌≤◌}
 use native.Mathlib.Omega.{arith}
