@@ -1,5 +1,5 @@
 -- A reach and its limits: document 01, "The basin file" and 9 of "Who sent it".
-use Rattle.std.specs.Prelude.{ℕ, suc, ◌+◌, Bool, cond, ◌&&◌, List, [], ◌∷◌, leb, eqb, Option, Some, None}
+use Rattle.std.specs.Prelude.{ℕ, suc, ◌+◌, Bool, cond, ◌&&◌, List, [], ◌∷◌, leb, eqb}
 use Rattle.common.specs.Shares.{one}
 use Rattle.common.specs.Limits.{Word, word, words_in}
 use Rattle.common.specs.Amounts.{all_up_to}
@@ -13,11 +13,6 @@ reach_word_count = 3
 -- "c0 0..65,536; c1 with c0 + c1 1..65,536; next, 0 or above the reach's own number and at most M"; j is its number, from 1
 abbrev pub reach_words : ℕ → ℕ → Reach → List Word
 reach_words m j r = word 0 r.c0 one ∷ word 1 (r.c0 + r.c1) one ∷ word (cond (eqb r.next 0) 0 (suc j)) r.next m ∷ []
-
--- what number an answer stands for that has none where no word is outside its range
-abbrev pub number_of : Option ℕ → ℕ
-number_of (Some k) = k
-number_of None = reach_word_count
 
 -- the same without their ranges, as the file has them
 abbrev pub reach_words_of : Reach → List ℕ

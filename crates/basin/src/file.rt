@@ -100,6 +100,7 @@ impl Record for SubBasin {
         words.into()
     }
 
+    #[tactic(auto, unfolding(subbasin::specs::Record::first_outside))]
     fn first_out(&self, _number: u64, m: u64) -> Option<usize> {
         self.first_outside(m, MOST_START)
     }
@@ -144,6 +145,7 @@ fn read_all<R: Record>(
     requires { (n ≤ 32) × (n ≤ length records.old) × (start ≤ 1000) }
     ensures { ReadOf start R.WORDS (λ i. R.stored bytes.now (start + R.WORDS * i)) (λ i. R.words m (suc i) (R.stored bytes.now (start + R.WORDS * i))) n records.old records.new result }
 {
+    // By index: i gives a record's place in the file and its number, beside its place in `records`.
     for i in 0..n {
         let at = start + R::WORDS * i;
         let record = R::read(bytes, at);

@@ -44,11 +44,9 @@ impl Basin {
         requires { CountsIn self.now.n self.now.m }
         ensures { result ≡ reaches_used self.now.m self.now.reaches }
     {
-        for (j, r) in self.reaches[..self.m as usize].iter().enumerate() {
-            if !r.allowed(j as u64 + 1, self.m) {
-                return false;
-            }
-        }
-        true
+        self.reaches[..self.m as usize]
+            .iter()
+            .enumerate()
+            .all(|(j, r)| r.allowed(j as u64 + 1, self.m))
     }
 }

@@ -1,7 +1,7 @@
 // A reach and its limits: document 01, "The basin file" and 9 of "Who sent it".
-ghost use Rattle.std.specs.Prelude.{◌≡◌, ◌<◌, IfSome};
+ghost use Rattle.std.specs.Prelude.{◌≡◌, ◌<◌, IfSome, unwrap_or};
 ghost use Rattle.common.specs.Limits.{first_out};
-ghost use Rattle.basin.specs.Reach.{reach_word_count, reach_words, number_of, reach_in, is_blank_reach};
+ghost use Rattle.basin.specs.Reach.{reach_word_count, reach_words, reach_in, is_blank_reach};
 
 use common::shares::ONE;
 use curve::store::MOST_CONTENT;
@@ -21,9 +21,10 @@ pub const WORDS: u64 = 3;
 pub const NAMES: [&str; 3] = ["c0", "c1", "next"];
 
 impl Reach {
-    // The number of its first word outside its range, if there is one; j is the reach's own number, from 1.
+    // The number of its first word outside its range, if there is one; j is the reach's own number, from 1. No list of ranges as the record
+    // has: c0 + c1 is judged with c1, and next may be 0 whatever j is.
     pub fn first_outside(&self, j: u64, m: u64) -> Option<usize>
-        ensures answers { number_of result ≡ first_out (reach_words m j self.now) }
+        ensures answers { unwrap_or result reach_word_count ≡ first_out (reach_words m j self.now) }
         ensures one_of_its_words { IfSome result (λ k. k < reach_word_count) }
     {
         if ONE < self.c0 {

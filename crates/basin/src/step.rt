@@ -4,7 +4,7 @@ ghost use Rattle.common.specs.Weather.{WeatherIn};
 ghost use Rattle.forcing.specs.List.{as_forcing};
 ghost use Rattle.basin.specs.Limits.{others_in, basin_in};
 ghost use Rattle.basin.specs.Step.{taken, as_outcome, refused_step, step_call, Judged};
-ghost use Rattle.basin.specs.Workers.{Weathers, TurnOf, subs_only, SubsOf};
+ghost use Rattle.basin.specs.Workers.{CountsIn, Weathers, TurnOf, subs_only, SubsOf};
 
 use crate::network;
 use crate::state::Basin;
@@ -46,7 +46,8 @@ impl Basin {
         self.step_with(&roots, lines, count)
     }
 
-    // The same with a table of roots that is lent (curve::capacity), for whoever takes many steps.
+    // The same with a table of roots that is lent (curve::capacity), for whoever takes many steps. `step` is this with the printed table: a
+    // host of few steps needs no table.
     pub fn step_with(
         &mut self,
         roots: &Roots,
@@ -82,6 +83,7 @@ impl Basin {
         requires { (others_in self.old ≡ true) × Weathers readings.now.weather }
         ensures { as_outcome self.new result ≡ cond (basin_in self.old) (taken self.old (as_forcing (Ok readings.now))) (refused_step self.old 9 0) }
     {
+        // a copy: a step that meets 9 leaves the basin as it was
         let mut subs = self.subs;
         let mut stepped = step_subs(roots, &mut subs, &readings.weather, self.n, self.m)?;
         let routed = network::route(&mut self.reaches, &mut stepped.sent, self.m);
@@ -114,13 +116,14 @@ fn step_subs(
     n: u64,
     m: u64,
 ) -> Result<Subs, Refusal>
-    requires { (n ≤ 32) × (m ≤ 31) × Weathers weather.now }
+    requires { CountsIn n m × Weathers weather.now }
     ensures { SubsOf (subs_only n m subs.old) weather.now subs.new result }
 {
     let mut sent = [0; 32];
     let mut rain = 0;
     let mut loss = 0;
     let mut held = 0;
+    // By index: `iter_mut().zip(weather)` was tried, and its proof didn't close.
     for i in 0..n as usize {
         let turn = take_turn(roots, &mut subs[i], weather[i], m)?;
         sent[turn.to as usize] += turn.q;
@@ -147,21 +150,22 @@ struct Turn {
 }
 
 fn take_turn(roots: &Roots, s: &mut SubBasin, w: Weather, m: u64) -> Result<Turn, Refusal>
-    requires { (m ≤ 31) × WeatherIn w }
+    requires { WeatherIn w }
     ensures { TurnOf m s.old w s.new result }
 {
-    let p = s.fixed;
-    if m < p.reach {
+    let area = s.fixed.area;
+    let reach = s.fixed.reach;
+    if m < reach {
         return Err(Refusal::BadBasin);
     }
     let Ok(flows) = s.step_with(roots, w) else {
         return Err(Refusal::BadBasin);
     };
     Ok(Turn {
-        to: p.reach,
+        to: reach,
         q: flows.q,
-        rain: p.area * w.rain,
-        loss: p.area * (flows.eu + flows.el + flows.ed),
+        rain: area * w.rain,
+        loss: area * (flows.eu + flows.el + flows.ed),
         held: s.water(),
     })
 }

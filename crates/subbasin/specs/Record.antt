@@ -1,5 +1,5 @@
 -- A sub-basin's record and its limits: document 01, "The basin file" and 9 and 10 of "Who sent it".
-use Rattle.std.specs.Prelude.{ℕ, ◌-◌, ◌^◌, Bool, ◌&&◌, List, [], ◌∷◌, leb, eqb, get_or, replicate, Option, Some, None}
+use Rattle.std.specs.Prelude.{ℕ, ◌-◌, ◌^◌, Bool, ◌&&◌, List, [], ◌∷◌, leb, eqb, get_or, replicate}
 use Rattle.common.specs.Shares.{one}
 use Rattle.common.specs.Limits.{Word, word, values, words_in, first_out}
 use Rattle.common.specs.Amounts.{all_up_to}
@@ -41,11 +41,6 @@ words m v s =
 -- the number of the first word outside its range, counted from 0, and the word count where none is
 unfoldable pub first_outside : ℕ → ℕ → SubBasin → ℕ
 first_outside m v s = first_out (words m v s)
-
--- what number an answer stands for that has none where none is outside
-abbrev pub number_of : Option ℕ → ℕ
-number_of (Some k) = k
-number_of None = word_count
 
 -- the words alone
 abbrev pub words_of : SubBasin → List ℕ

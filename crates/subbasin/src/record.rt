@@ -1,6 +1,6 @@
 // A sub-basin's record: the words of the basin file, the lag line and the channel store; and its limits.
-ghost use Rattle.std.specs.Prelude.{◌≡◌, ◌<◌, IfSome};
-ghost use Rattle.subbasin.specs.Record.{word_count, words_of, of_words, first_outside, number_of, record_in, is_blank};
+ghost use Rattle.std.specs.Prelude.{◌≡◌, ◌<◌, IfSome, unwrap_or};
+ghost use Rattle.subbasin.specs.Record.{word_count, words_of, of_words, first_outside, record_in, is_blank};
 
 use common::amounts;
 use common::shares::ONE;
@@ -144,7 +144,7 @@ impl SubBasin {
 
     // The number of the first word outside its range, counted from 0. REACH is up to m, VI and VG up to v.
     pub fn first_outside(&self, m: u64, v: u64) -> Option<usize>
-        ensures numbered { number_of result ≡ first_outside m v self.now }
+        ensures numbered { unwrap_or result word_count ≡ first_outside m v self.now }
         ensures a_word { IfSome result (λ k. k < word_count) }
     {
         let p = &self.fixed;
@@ -189,7 +189,7 @@ impl SubBasin {
         self.channel <= MOST_CONTENT && self.line.allowed()
     }
 
-    // Whether the record is all zeros.
+    // Whether the record is all zeros. By its words: a derived `==` would be one of four structs, and nothing else asks for it.
     #[tactic(auto, unfolding(crate::specs::Record::is_blank))]
     pub fn is_blank(&self) -> bool
         ensures { result ≡ is_blank self.now }

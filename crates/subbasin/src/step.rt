@@ -54,7 +54,8 @@ impl SubBasin {
         self.step_with(&roots, weather)
     }
 
-    // The same with a table of roots that is lent (curve::capacity), for whoever takes many steps.
+    // The same with a table of roots that is lent (curve::capacity), for whoever takes many steps. `step` is this with the printed table: a
+    // host of few steps needs no table.
     #[tactic(auto, using(crate::proofs::step::CallLaws::called, crate::proofs::step::StageLaws::chained), unfolding(crate::specs::Step::sub_call))]
     pub fn step_with(&mut self, roots: &Roots, weather: Weather) -> Result<Flows, Refusal>
         ensures { as_stepped self.new result ≡ sub_call self.old weather }

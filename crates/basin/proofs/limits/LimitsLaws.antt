@@ -7,8 +7,10 @@ use native.Mathlib.Omega.{arith}
 use lib.Dec.{leb}
 use borrow.Author.Tests.{le-leb}
 use native.Mathlib.Numerals.{add-one}
-use lib.ListN.{length, get_or, take, drop}
-use Rattle.std.specs.List.{list_all}
+use lib.ListN.{length, get_or, take, drop, length-take}
+use lib.Seq.{take_all}
+use Rattle.std.specs.List.{list_all, enumerate_from}
+use Rattle.std.proofs.lemmas.List.FromFn.{get_or-enumerate_from, length-enumerate_from}
 use Rattle.std.proofs.lemmas.List.{get_or-take, get_or-drop}
 use Rattle.std.proofs.lemmas.List.Folds.{list_all_more}
 use Rattle.common.specs.Limits.{within}
@@ -17,9 +19,8 @@ use Rattle.common.proofs.Limits.{both, parts, within_in, within_limits, within_n
 use Rattle.common.proofs.Loops.{every_in, every_at}
 use Rattle.subbasin.specs.Record.{record_in, is_blank}
 use Rattle.subbasin.proofs.record.RecordLaws.{RecordIn, record_limits, record_in_lem}
-use Rattle.basin.specs.declared.reach.Reach.{Reach}
 use Rattle.basin.specs.declared.state.Basin.{Basin}
-use Rattle.basin.specs.Reach.{reach_in, blank_reach, is_blank_reach}
+use Rattle.basin.specs.Reach.{reach_in, is_blank_reach}
 use Rattle.basin.specs.State.{most_subs, most_reaches, sub_at, reach_at}
 use Rattle.basin.specs.Limits.{counts_in, subs_used, subs_blank, reaches_used, reaches_blank, others_in, basin_in}
 use Rattle.basin.specs.Workers.{CountsIn, records_in}
@@ -63,6 +64,23 @@ module _ {A : Type 0} (p : A → Bool) (d : A) (l : List A) where
       rw (← (add-one j))
       (list_all_more p (drop n l) j d (omega arith) ∙ rw (get_or-drop n l j d) (ap (λ b. b && p (get_or l (n + j) d)) (all_left n j (omega arith))))
 
+-- and of each with its number, from 1
+module _ {A : Type 0} (p : ℕ → A → Bool) (d : A) (l : List A) (m : ℕ) (long : m ≤ length l) where
+  numbered : (n : ℕ) → n ≤ m → list_all (λ (t : ℕ × A). p (t.0 + 1) t.1) (take n (enumerate_from 0 (take m l))) ≡ every (λ k. p (suc k) (get_or l k d)) n
+  unfolding every
+  numbered zero h = refl
+  numbered (suc n) h =
+      let from_zero : 0 + n ≡ n = omega arith in
+      let here : p (n + 1) (get_or l n d) ≡ p (suc n) (get_or l n d) = rw (add-one n) in
+      rw (← (add-one n))
+      (list_all_more (λ (t : ℕ × A). p (t.0 + 1) t.1) (enumerate_from 0 (take m l)) n (0, d) (omega (arith, length-enumerate_from 0 (take m l), length-take m l))
+      ∙ rw (get_or-enumerate_from 0 (take m l) n (0, d) (omega (arith, length-take m l)), from_zero, get_or-take m l n d (omega arith), here)
+      (ap (λ b. b && p (suc n) (get_or l n d)) (numbered n (omega arith))))
+
+  pub all_numbered : list_all (λ (t : ℕ × A). p (t.0 + 1) t.1) (enumerate_from 0 (take m l)) ≡ every (λ k. p (suc k) (get_or l k d)) m
+  all_numbered =
+      rw (take_all m (enumerate_from 0 (take m l)) (omega (arith, length-enumerate_from 0 (take m l), length-take m l))) at (numbered m (omega arith))
+
 -- ---- a test, and another where it holds
 
 pub and_then : {a x y v : Bool} → a ≡ x → a ≡ true → v ≡ y → v ≡ x && y
@@ -72,10 +90,6 @@ pub and_stop : {a x v : Bool} (y : Bool) → a ≡ x → a ≡ false → v ≡ a
 and_stop y is nay e = e ∙ nay ∙ rw (sym is ∙ nay)
 
 -- ---- the records
-
--- reach j of the first m, as the code reads it
-pub used_reach : (m : ℕ) (l : List Reach) (j : ℕ) → j < m → reach_in m (suc j) (get_or l j blank_reach) ≡ reach_in m (j + 1) (get_or (take m l) j blank_reach)
-used_reach m l j h = rw (add-one j, get_or-take m l j blank_reach h)
 
 -- all is inside its limits but the sub-basins in use
 pub record OthersIn (b : Basin) : Type 0 where

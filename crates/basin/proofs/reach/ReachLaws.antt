@@ -5,7 +5,7 @@ use Prim.Native.Nat.{ℕ, zero, suc, ◌+◌, ◌≤◌, ◌<◌}
 use native.Mathlib.Omega.{arith}
 use lib.Dec.{leb, eqb}
 use borrow.Author.Tests.{le-leb, lt-leb, leb-true, ne_eqb, eqb-false}
-use Rattle.std.proofs.Common.{Option, Some, None, IfSome}
+use Rattle.std.proofs.Common.{Option, Some, None, IfSome, unwrap_or}
 use Rattle.std.specs.Option.{is_some}
 use Rattle.common.specs.Shares.{one}
 use Rattle.common.specs.Limits.{words_in, first_out}
@@ -14,7 +14,7 @@ use Rattle.common.proofs.Limits.{both, parts, refuted, Within, words_limits, wor
 use Rattle.subbasin.specs.Record.{most_stored}
 use Rattle.basin.specs.declared.reach.Reach.{Reach}
 use Rattle.basin.specs.Network.{g_of}
-use Rattle.basin.specs.Reach.{reach_word_count, reach_words, number_of, reach_in, blank_reach, is_blank_reach}
+use Rattle.basin.specs.Reach.{reach_word_count, reach_words, reach_in, blank_reach, is_blank_reach}
 
 -- ---- a reach's words
 
@@ -76,7 +76,7 @@ module _ (m j : ℕ) (r : Reach) where
   reach_in_lem h = both (words_in_lem (reach_words m j r) (words_reach m j r h.in_words)) (le-leb r.content most_stored h.content_most)
 
   -- its tests, one after the other: a word outside, and then the content
-  module _ (o : Option ℕ) (is : number_of o ≡ first_out (reach_words m j r)) (one : IfSome o (λ k. k < reach_word_count)) where
+  module _ (o : Option ℕ) (is : unwrap_or o reach_word_count ≡ first_out (reach_words m j r)) (one : IfSome o (λ k. k < reach_word_count)) where
     pub words_outside : is_some o ≡ true → false ≡ reach_in m j r
     unfolding reach_in
     words_outside t =
@@ -84,7 +84,7 @@ module _ (m j : ℕ) (r : Reach) where
         (refuted (words_in (reach_words m j r) && leb r.content most_stored)
         (λ h. some_less o one t (is ∙ first_all (reach_words m j r) (words_limits (reach_words m j r) (parts (words_in (reach_words m j r)) (leb r.content most_stored) h).0))))
       where
-        some_less : (o : Option ℕ) → IfSome o (λ k. k < reach_word_count) → is_some o ≡ true → number_of o ≡ reach_word_count → ⊥
+        some_less : (o : Option ℕ) → IfSome o (λ k. k < reach_word_count) → is_some o ≡ true → unwrap_or o reach_word_count ≡ reach_word_count → ⊥
         some_less (Some k) l s e = omega arith
         some_less None l s e = cc
 
@@ -92,7 +92,7 @@ module _ (m j : ℕ) (r : Reach) where
     unfolding reach_in
     words_inside t = rw (words_in_lem (reach_words m j r) (first_none (reach_words m j r) (sym is ∙ none_all o t)))
       where
-        none_all : (o : Option ℕ) → is_some o ≡ false → number_of o ≡ reach_word_count
+        none_all : (o : Option ℕ) → is_some o ≡ false → unwrap_or o reach_word_count ≡ reach_word_count
         none_all (Some k) s = cc
         none_all None s = refl
 

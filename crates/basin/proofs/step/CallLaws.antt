@@ -30,6 +30,10 @@ use Rattle.basin.proofs.reach.ReachLaws.{reach_in_lem}
 use Rattle.basin.proofs.limits.LimitsLaws.{OthersIn, others_limits, basin_used}
 use Rattle.basin.proofs.step.StepLaws.{waters_after, content_after}
 
+-- the code's refusal of a basin that 9 doesn't allow
+pub nine_told : (b : Basin) {w : Refused} → w ≡ record { why = BadBasin; place = 0 } → as_outcome b (Err w) ≡ refused_step b 9 0
+nine_told b e = ap (λ (w : Refused). as_outcome b (Err w)) e
+
 -- ---- a step whose forcing is accepted
 
 -- its answer, by 9
@@ -41,8 +45,7 @@ module _ (b : Basin) (f : Forcing) (y : others_in b ≡ true) where
       → IsErr r × IsErrAnd r (λ e. e ≡ record { why = why; place = 0 }) → as_outcome b r ≡ by_nine b f
   subs_refuse n {why} is (Ok x) h = cc
   subs_refuse n {why} is (Err e) h =
-      ap (λ (w : Refused). as_outcome b (Err w)) (h.1 ∙ ap (λ (r : Refusal). record { why = r; place = 0 }) is)
-      ∙ sym (rw (basin_used b y ∙ n))
+      nine_told b (h.1 ∙ ap (λ (r : Refusal). record { why = r; place = 0 }) is) ∙ sym (rw (basin_used b y ∙ n))
 
 module _ (b : Basin) (f : Forcing) (y : others_in b ≡ true) {subs : List SubBasin} {s : Subs} (done : SubsDone (subs_only b.n b.m b.subs) f.weather subs s) where
   abbrev others : OthersIn b

@@ -1,18 +1,17 @@
 -- What is said of the step call beside its equation: what is accepted, and what a refusal is. Assumes nothing.
-use mathlib.Core.Path.{◌≡◌, refl, sym, ap, ◌∙◌}
+use mathlib.Core.Path.{◌≡◌, refl, sym, ◌∙◌}
 use mathlib.Core.Bool.{Bool, true, false, true≢false}
 use mathlib.Core.List.{List}
 use Prim.Native.Nat.{ℕ}
 use native.Mathlib.Omega.{arith}
 use borrow.Author.Tests.{eqb-false}
-use Rattle.std.proofs.Common.{Ok, Err}
+use Rattle.std.proofs.Common.{Err}
 use Rattle.common.specs.declared.refusal.Refused.{Refused as Reason}
 use Rattle.common.proofs.Refusals.{number_some}
 use Rattle.forcing.specs.declared.list.Line.{Line}
 use Rattle.forcing.specs.List.{reading, is_inside}
 use Rattle.forcing.proofs.list.ReadLaws.{accepted_test}
 use Rattle.basin.specs.declared.state.Basin.{Basin}
-use Rattle.basin.specs.declared.step.Report.{Report}
 use Rattle.basin.specs.Limits.{others_in, basin_in}
 use Rattle.basin.specs.Step.{Outcome, taken, refused_step, as_outcome, answered, step_call, Judged}
 use Rattle.basin.proofs.limits.LimitsLaws.{basin_others}
@@ -64,15 +63,6 @@ pub answers : (b : Basin) (lines : List Line) (count : ℕ) {o : Outcome} → o 
 answers b lines count e =
     record { answers = e; judges = rw e (judged_cases b lines count (basin_in b) (is_inside lines count b.n) refl refl) }
 
--- what an answer of the code says of its call
-module _ (b : Basin) (lines : List Line) (count : ℕ) (after : Basin) where
-  pub ok_accepted : (r : Report) → as_outcome after (Ok r) ≡ step_call b lines count → (step_call b lines count).number ≡ 0
-  ok_accepted r e = ap (λ (o : Outcome). o.number) (sym e)
-
-  module _ (w : Reason) (e : as_outcome after (Err w) ≡ step_call b lines count) where
-    pub err_refused : (step_call b lines count).number ≡ 0 → ⊥
-    err_refused z = omega (arith, number_some w.why, ap (λ (o : Outcome). o.number) e ∙ z)
-
-    -- it leaves the basin as it was
-    pub err_keeps : after ≡ b
-    err_keeps = ((answers b lines count e).judges.refused (λ z. omega (arith, number_some w.why, z))).unchanged
+-- a refusal of the code leaves the basin as it was
+pub err_keeps : (b : Basin) (lines : List Line) (count : ℕ) (after : Basin) (w : Reason) → as_outcome after (Err w) ≡ step_call b lines count → after ≡ b
+err_keeps b lines count after w e = ((answers b lines count e).judges.refused (λ z. omega (arith, number_some w.why, z))).unchanged

@@ -9,7 +9,7 @@ use Rattle.std.proofs.Common.{Result, Ok, Err, IsErr, IsErrAnd}
 use Rattle.common.specs.declared.refusal.Refusal.{Refusal}
 use Rattle.common.specs.declared.refusal.Refusal.TheVariants.{BadBasin}
 use Rattle.common.specs.declared.weather.Weather.{Weather}
-use Rattle.common.specs.Weather.{calm, WeatherIn}
+use Rattle.common.specs.Weather.{calm}
 use Rattle.common.specs.Amounts.{sum}
 use Rattle.common.proofs.amounts.AmountLaws.{get_or_within, at_most_sum, sum_zeros}
 use Rattle.common.proofs.Loops.{Trying, try_begin, try_turn, try_stop, try_end}
@@ -86,9 +86,6 @@ module _ (b : Basin) (ws : List Weather) where
 
       sky : (d : Weather) → get_or ws i d ≡ get_or ws i calm
       sky d = get_or_within ws i d calm (omega (arith, s.weathers.long, s.n_most))
-
-      pub weather_here : (d : Weather) → WeatherIn (get_or ws i d)
-      weather_here d = rw (sky d) (s.weathers.each i)
 
       pub stepping_stop : (d : SubBasin) → record_in b.m (get_or subs i d) ≡ false → subs_used b.m b.n b.subs ≡ false
       unfolding subs_used

@@ -2,7 +2,7 @@
 use mathlib.Core.Path.{◌≡◌, refl, sym, ap, ◌∙◌}
 use mathlib.Core.Bool.{Bool, true, false, cond, not, ◌&&◌, ◌||◌, and-true, and-false, true≢false}
 use mathlib.Core.List.{List, [], ◌∷◌}
-use Rattle.std.specs.Prelude.{Option, Some, None, IfSome}
+use Rattle.std.specs.Prelude.{Option, Some, None, IfSome, unwrap_or}
 use Rattle.std.specs.List.{position, position_or_len}
 use Rattle.std.specs.Option.{is_some}
 use Prim.Native.Nat.{ℕ, ◌≤◌, ◌<◌}
@@ -20,7 +20,7 @@ use Rattle.subbasin.specs.declared.record.Parameters.{Parameters}
 use Rattle.subbasin.specs.declared.record.Contents.{Contents}
 use Rattle.subbasin.specs.declared.record.SubBasin.{SubBasin}
 use Rattle.subbasin.specs.Lag.{in_use, most_waiting, line_in}
-use Rattle.subbasin.specs.Record.{words, first_outside, number_of, words_of, of_words, word_count, most_slow, most_stored, record_in, is_blank, blank_sub}
+use Rattle.subbasin.specs.Record.{words, first_outside, words_of, of_words, word_count, most_slow, most_stored, record_in, is_blank, blank_sub}
 
 -- ---- the first word outside, as it is looked for: a place among triples of least, value and most
 
@@ -50,22 +50,22 @@ module _ (m v : ℕ) (s : SubBasin) where
   unfolding first_outside
   first_most = first_le (words m v s)
 
-  numbered_by : (n : ℕ) → n ≡ first_outside m v s → number_of (cond (ltb n word_count) (Some n) None) ≡ first_outside m v s
+  numbered_by : (n : ℕ) → n ≡ first_outside m v s → unwrap_or (cond (ltb n word_count) (Some n) None) word_count ≡ first_outside m v s
   numbered_by n e = go (ltb n word_count) refl
     where
-      go : (b : Bool) → ltb n word_count ≡ b → number_of (cond b (Some n) None) ≡ first_outside m v s
+      go : (b : Bool) → ltb n word_count ≡ b → unwrap_or (cond b (Some n) None) word_count ≡ first_outside m v s
       go true t = e
       go false t = omega (arith, e, first_most, ltb-false n word_count t)
 
-  pub numbered : {r : Option ℕ} → r ≡ position out_of_range (triples (words m v s)) → number_of r ≡ first_outside m v s
+  pub numbered : {r : Option ℕ} → r ≡ position out_of_range (triples (words m v s)) → unwrap_or r word_count ≡ first_outside m v s
   unfolding first_outside
   numbered h = rw h (numbered_by _ (first_place (words m v s)))
 
-pub some_number : (r : Option ℕ) → IfSome r (λ k. k < word_count) → true ≡ is_some r → number_of r ≡ word_count → ⊥
+pub some_number : (r : Option ℕ) → IfSome r (λ k. k < word_count) → true ≡ is_some r → unwrap_or r word_count ≡ word_count → ⊥
 some_number (Some k) h t e = omega (arith, h)
 some_number None h t e = true≢false t
 
-pub none_number : (r : Option ℕ) → false ≡ is_some r → number_of r ≡ word_count
+pub none_number : (r : Option ℕ) → false ≡ is_some r → unwrap_or r word_count ≡ word_count
 none_number (Some k) t = absurd (true≢false (sym t))
 none_number None t = refl
 

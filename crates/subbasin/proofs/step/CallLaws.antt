@@ -1,6 +1,6 @@
 -- The sub-basin call: accepted inside its limits, refused outside. Assumes nothing.
-use Rattle.std.specs.Prelude.{Result, Ok, Err, IsOk}
-use mathlib.Core.Path.{◌≡◌, refl, sym, ap, ◌∙◌}
+use Rattle.std.specs.Prelude.{Ok, Err}
+use mathlib.Core.Path.{◌≡◌, sym, ap, ◌∙◌}
 use mathlib.Core.Bool.{true, false, cond, ◌&&◌}
 use Prim.Native.Nat.{◌≤◌}
 use native.Mathlib.Omega.{arith}
@@ -87,15 +87,3 @@ module _ (s : SubBasin) (w : Weather) {after : SubBasin} where
     pub err_out : CallIn s w → ⊥
     unfolding stepped
     err_out k = absurd (omega (arith, number_some why, ap (λ (st : Stepped). st.number) (h ∙ step_accepts s w k)))
-
-    -- it hands back what it got
-    pub err_returns : as_stepped after (Err why) ≡ returned s
-    err_returns = h ∙ step_refuses s w err_out
-
-    pub err_keeps : after ≡ s
-    err_keeps = ap (λ (st : Stepped). st.after) err_returns
-
--- a call inside its limits is accepted
-pub accepted_ok : (s : SubBasin) (w : Weather) (after : SubBasin) (r : Result Flows Refusal) → CallIn s w → as_stepped after r ≡ sub_call s w → IsOk r
-accepted_ok s w after (Ok f) k h = refl
-accepted_ok s w after (Err why) k h = absurd (err_out s w why h k)

@@ -4,7 +4,7 @@ use Rattle.basin.proofs.step.SubsLaws.{stepping_begin, stepping_stop, stepping_f
 use Rattle.basin.proofs.step.step_subs.Goals as goal
 
 pub loop-i-init : goal.loop-i-init
-loop-i-init c = stepping_begin (subs_only _ _ _) _ c.requires.0 c.requires.1 (search) c.requires.2
+loop-i-init c = stepping_begin (subs_only _ _ _) _ c.requires.0.n_most c.requires.0.m_most (search) c.requires.1
 
 pub returns-in_err-turn : goal.returns-in_err-turn
 returns-in_err-turn c =

@@ -1,9 +1,7 @@
 -- `basin::state::Basin::refusal` meets its contract: once the sub-basins in use are judged, all of 9 is. Assumes nothing.
-use mathlib.Core.Path.{sym, ap, ◌∙◌}
-use Rattle.std.proofs.Common.{Err}
-use Rattle.common.specs.declared.refusal.Refused.{Refused}
-use Rattle.basin.specs.Step.{as_outcome}
+use mathlib.Core.Path.{sym, ◌∙◌}
 use Rattle.basin.proofs.limits.LimitsLaws.{others_counts, basin_used}
+use Rattle.basin.proofs.step.CallLaws.{nine_told}
 use Rattle.basin.proofs.state.Basin.refusal.Goals as goal
 
 pub subs_used-requires : goal.subs_used-requires
@@ -14,5 +12,5 @@ returns-then-subs_used c = sym (rw (basin_used _ c.requires ∙ sym c.subs_used.
 
 pub returns : goal.returns
 returns c =
-    ap (λ (w : Refused). as_outcome c.args.self.now (Err w)) c.into.ensures
+    nine_told c.args.self.now c.into.ensures
     ∙ sym (rw (basin_used _ c.requires ∙ sym c.subs_used.ensures ∙ c.if-subs_used.false))

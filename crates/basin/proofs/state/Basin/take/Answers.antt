@@ -1,15 +1,13 @@
 -- `basin::state::Basin::take` meets its contract. Assumes nothing.
 use Rattle.std.proofs.Common.{Ok}
 use Rattle.forcing.specs.List.{as_forcing}
-use Rattle.basin.proofs.limits.LimitsLaws.{others_limits}
+use Rattle.basin.proofs.limits.LimitsLaws.{others_counts}
 use Rattle.basin.proofs.step.CallLaws.{subs_refuse, flowing, taken_is}
 use Rattle.basin.proofs.state.Basin.take.Goals as goal
 
 pub step_subs-requires : goal.step_subs-requires
 step_subs-requires c =
-    let pre = c.requires in
-    let others = others_limits _ pre.0 in
-    (others.n_most, others.m_most, pre.1)
+    (others_counts _ c.requires.0, c.requires.1)
 
 pub returns-in_err-stepped : goal.returns-in_err-stepped
 returns-in_err-stepped c =
