@@ -1,6 +1,6 @@
 use Rattle.std.proofs.Common.{ap, ◌∙◌, arith}
+use Rattle.basin.proofs.step.JudgedLaws.{err_keeps}
 use Rattle.basin.proofs.week.WeekLaws.{count_in}
-use Rattle.common.proofs.Refusals.{number_some}
 use Rattle.std.specs.declared.slice.ChunksExact.{ChunksExact}
 use Rattle.forcing.specs.declared.list.Line.{Line}
 use Rattle.week.proofs.GoingLaws.{going_begun, going_few, going_count, going_fits, going_on, going_stopped, going_end, going_refused}
@@ -36,7 +36,7 @@ loop-step-preserved c =
 pub returns-in-Err-step_with : goal.returns-in-Err-step_with
 returns-in-Err-step_with c =
     going_stopped c.loop-step.invariant.2 _ _ c.in-Some.ensures.steps.1 c.lines_of.ensures _ c.in-Err-step_with.ensures.answers
-    (c.in-Err-step_with.ensures.judges.refused (λ z. omega (arith, z, number_some c.in-Err-step_with.refused.why))).unchanged
+    (err_keeps _ _ _ _ _ c.in-Err-step_with.ensures.answers)
 
 pub returns : goal.returns
 returns c = going_end c.loop-step.invariant.2 c.in-None.ensures.steps.1.0
