@@ -1,7 +1,7 @@
 -- What 9's limits of a basin say, both ways, and their tests one after the other. Assumes nothing.
 use mathlib.Core.Path.{◌≡◌, refl, sym, ap, ◌∙◌}
 use mathlib.Core.Bool.{Bool, true, false, ◌&&◌}
-use mathlib.Core.List.{List}
+use mathlib.Core.List.{List, [], ◌∷◌}
 use Prim.Native.Nat.{ℕ, zero, suc, ◌+◌, ◌-◌, ◌≤◌, ◌<◌}
 use native.Mathlib.Omega.{arith}
 use lib.Dec.{leb}
@@ -13,11 +13,12 @@ use Rattle.std.specs.List.{list_all, enumerate_from}
 use Rattle.std.proofs.lemmas.List.FromFn.{get_or-enumerate_from, length-enumerate_from}
 use Rattle.std.proofs.lemmas.List.{get_or-take, get_or-drop}
 use Rattle.std.proofs.lemmas.List.Folds.{list_all_more}
-use Rattle.common.specs.Limits.{within}
+use Rattle.common.specs.Limits.{within, words_in}
 use Rattle.common.specs.Loops.{every}
 use Rattle.common.proofs.Limits.{both, parts, within_in, within_limits, within_not}
 use Rattle.common.proofs.Loops.{every_in, every_at}
-use Rattle.subbasin.specs.Record.{record_in, is_blank}
+use Rattle.subbasin.specs.declared.record.SubBasin.{SubBasin}
+use Rattle.subbasin.specs.Record.{record_in, is_blank, blank_sub}
 use Rattle.subbasin.proofs.record.RecordLaws.{RecordIn, record_limits, record_in_lem}
 use Rattle.basin.specs.declared.state.Basin.{Basin}
 use Rattle.basin.specs.Reach.{reach_in, is_blank_reach}
@@ -90,6 +91,16 @@ pub and_stop : {a x v : Bool} (y : Bool) → a ≡ x → a ≡ false → v ≡ a
 and_stop y is nay e = e ∙ nay ∙ rw (sym is ∙ nay)
 
 -- ---- the records
+
+-- past the end of an array of records code may read another record than the definitions do; no test of 9 tells them apart
+abbrev pub no_sub : SubBasin
+no_sub = record { fixed = blank_sub.fixed; contents = blank_sub.contents; line = record { lag = 0; waiting = [] }; channel = 0 }
+
+pub used_read : (m : ℕ) (l : List SubBasin) (i : ℕ) → record_in m (get_or l i no_sub) ≡ record_in m (get_or l i blank_sub)
+unfolding record_in words_in
+used_read m [] i = refl
+used_read m (s ∷ l) zero = refl
+used_read m (s ∷ l) (suc i) = used_read m l i
 
 -- all is inside its limits but the sub-basins in use
 pub record OthersIn (b : Basin) : Type 0 where
