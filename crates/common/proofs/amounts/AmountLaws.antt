@@ -1,15 +1,15 @@
 -- Lists of amounts: bounds and sums, and the loops over them. Assumes nothing.
-use mathlib.Core.Path.{◌≡◌, refl, ap, ◌∙◌}
-use mathlib.Core.Bool.{true, ◌&&◌}
+use mathlib.Core.Path.{◌≡◌, refl, sym, ap, ◌∙◌}
+use mathlib.Core.Bool.{true, false, ◌&&◌}
 use mathlib.Core.List.{List, [], ◌∷◌, ◌++◌}
 use Prim.Native.Nat.{ℕ, zero, suc, ◌+◌, ◌*◌, ◌≤◌, ◌<◌}
 use native.Mathlib.Nat.{le_of_suc-le-suc, not-suc-le-zero}
 use native.Mathlib.Numerals.{add-one}
 use native.Mathlib.Omega.{arith}
 use lib.Dec.{leb}
-use lib.ListN.{length, get_or, set, take, drop, replicate}
+use lib.ListN.{length, get_or, set, take, drop, replicate, drop_of_length-le}
 use lib.Seq.{drop-cons, take_all}
-use borrow.Author.Tests.{le-leb, leb-true}
+use borrow.Author.Tests.{le-leb, lt-leb, leb-true}
 use Rattle.std.specs.List.{list_all}
 use Rattle.common.specs.Amounts.{sum, all_up_to, capped}
 use Rattle.common.proofs.Limits.{both, parts}
@@ -89,6 +89,27 @@ pub all_listed : (b : ℕ) (xs : List ℕ) → list_all (λ x. leb x b) xs ≡ a
 unfolding all_up_to
 all_listed b [] = refl
 all_listed b (x ∷ xs) = ap (λ t. leb x b && t) (all_listed b xs)
+
+-- and as a loop by index looks over the amounts from a place on: the rest of it gives the answer
+pub record Looking (b : ℕ) (xs : List ℕ) (from i : ℕ) : Type 0 where
+  pub answer : all_up_to b (drop i xs) ≡ all_up_to b (drop from xs)
+
+module _ {b : ℕ} {xs : List ℕ} {from : ℕ} where
+  pub look_begin : Looking b xs from from
+  look_begin = record { answer = refl }
+
+  module _ {i : ℕ} (s : Looking b xs from i) where
+    pub look_turn : i < length xs → get_or xs i 0 ≤ b → Looking b xs from (i + 1)
+    unfolding all_up_to
+    look_turn l h = record { answer = sym (rw (drop-cons xs i 0 l, le-leb (get_or xs i 0) b h, add-one i)) ∙ s.answer }
+
+    pub look_stop : i < length xs → b < get_or xs i 0 → false ≡ all_up_to b (drop from xs)
+    unfolding all_up_to
+    look_stop l h = sym (rw (drop-cons xs i 0 l, lt-leb (get_or xs i 0) b h)) ∙ s.answer
+
+    pub look_end : length xs ≤ i → true ≡ all_up_to b (drop from xs)
+    unfolding all_up_to
+    look_end h = sym (rw (drop_of_length-le xs {i = i} h)) ∙ s.answer
 
 -- ---- sums
 
