@@ -1,9 +1,8 @@
 // The capacity curve: document 01, "The capacity curve". Shares are in parts of 65,536, capacities in µm.
 ghost use Rattle.std.specs.Prelude.{◌≡◌, ◌↔◌, IsTrue, ◌+◌, ◌≤◌, ◌<◌};
 ghost use Rattle.common.specs.Shares.{one};
-ghost use Rattle.curve.specs.Capacity.{held, held_at, least_share, ordinate};
+ghost use Rattle.curve.specs.Capacity.{held, held_at, least_share, ordinate, as_answer, root_call, power_call, held_call, ordinate_call};
 ghost use Rattle.curve.specs.Workers.{CurveIn};
-ghost use Rattle.curve.specs.Capacity.{as_answer, root_call, power_call, held_call, ordinate_call};
 
 pub use crate::roots::{FindRoot, Newton, Printed, Roots, printed_roots};
 use crate::share::Share;
@@ -83,7 +82,7 @@ impl Curve {
     }
 }
 
-// A curve inside its limits. The roots go beside it: of a struct that holds a reference each clause would have to say at which end of a call.
+// A curve inside its limits. The roots go beside it: tried, but of a struct with a reference each clause has to say at which end of a call.
 #[derive(Clone, Copy)]
 struct Inside {
     curve: Curve,
@@ -119,32 +118,33 @@ impl Inside {
     {
         let m = self.curve.m;
         let t = self.least_share(roots, w);
-        m - (t * m + (ONE - 1)) / ONE
+        m - (t.parts * m).div_ceil(ONE)
     }
 
     // The interval from lo to hi is narrowed: with the share hi at most w is held, with lo more. The first trial is a guess. From it the
     // trials go 1 share on, 1 again, 2, 4 and so on, and where that leaves the interval to its middle. Any share between lo and hi would do.
+    // The share is yielded by break, as document 01 has it.
     #[tactic(auto, using(crate::proofs::capacity::ShareLaws::search_laws))]
-    fn least_share<R: FindRoot>(self, roots: &R, w: u64) -> u64
+    fn least_share<R: FindRoot>(self, roots: &R, w: u64) -> Share
         requires { w ≤ self.curve.c }
-        ensures { (result ≡ least_share self.curve.c self.curve.e w) × (result ≤ one) }
+        ensures { result ≡ least_share self.curve.c self.curve.e w }
     {
         let c = self.curve.c;
         if w == c {
-            return 0;
+            return Share { parts: 0 };
         }
         // with a lesser power more than w is held
-        let power = ((c - w) * ONE + c - 1) / c;
+        let power = ((c - w) * ONE).div_ceil(c);
         let mut lo = 0;
         let mut hi = ONE;
         let mut at = guesses::share_of(power, self.curve.e);
-        let mut step = 1;
+        let mut step = 1u64;
         loop {
-            let far = (step + 1) / 2;
+            let far = step.div_ceil(2);
             step = (step * 2).min(ONE);
             if self.held_at(roots, Share { parts: at }) <= w {
                 if at - lo <= 1 {
-                    break at;
+                    break Share { parts: at };
                 }
                 hi = at;
                 at = if far < hi - lo {
@@ -154,7 +154,7 @@ impl Inside {
                 };
             } else {
                 if hi - at <= 1 {
-                    break hi;
+                    break Share { parts: hi };
                 }
                 lo = at;
                 at = if far < hi - lo {
