@@ -1,9 +1,8 @@
 // The capacity curve: document 01, "The capacity curve". Shares are in parts of 65,536, capacities in µm.
 ghost use Rattle.std.specs.Prelude.{◌≡◌, ◌↔◌, IsTrue, ◌+◌, ◌≤◌, ◌<◌};
 ghost use Rattle.common.specs.Shares.{one};
-ghost use Rattle.curve.specs.Capacity.{held, held_at, least_share, ordinate};
+ghost use Rattle.curve.specs.Capacity.{held, held_at, least_share, ordinate, as_answer, root_call, power_call, held_call, ordinate_call};
 ghost use Rattle.curve.specs.Workers.{CurveIn};
-ghost use Rattle.curve.specs.Capacity.{as_answer, root_call, power_call, held_call, ordinate_call};
 
 pub use crate::roots::{FindRoot, Newton, Printed, Roots, printed_roots};
 use crate::share::Share;
@@ -53,7 +52,7 @@ pub fn power<R: FindRoot>(roots: &R, t: u64, e: u64) -> Result<u64, Refusal>
 impl Curve {
     // What is held below the ordinate a.
     #[tactic(auto, using(crate::proofs::capacity::CallLaws::held_accepts, crate::proofs::capacity::CallLaws::held_refuses))]
-    pub fn held(self, roots: &Roots, a: u64) -> Result<u64, Refusal>
+    pub fn held<R: FindRoot>(self, roots: &R, a: u64) -> Result<u64, Refusal>
         ensures { as_answer result ≡ held_call self.c self.m self.e a }
     {
         if !self.is_inside() || self.m < a {
@@ -64,7 +63,7 @@ impl Curve {
 
     // The greatest ordinate below which at most w is held.
     #[tactic(auto, using(crate::proofs::capacity::CallLaws::ordinate_accepts, crate::proofs::capacity::CallLaws::ordinate_refuses))]
-    pub fn ordinate(self, roots: &Roots, w: u64) -> Result<u64, Refusal>
+    pub fn ordinate<R: FindRoot>(self, roots: &R, w: u64) -> Result<u64, Refusal>
         ensures { as_answer result ≡ ordinate_call self.c self.m self.e w }
     {
         if !self.is_inside() || self.c < w {
@@ -83,7 +82,7 @@ impl Curve {
     }
 }
 
-// A curve inside its limits. The roots go beside it: of a struct that holds a reference each clause would have to say at which end of a call.
+// A curve inside its limits. The roots go beside it: tried, but of a struct with a reference each clause has to say at which end of a call.
 #[derive(Clone, Copy)]
 struct Inside {
     curve: Curve,
@@ -92,7 +91,7 @@ struct Inside {
 
 impl Inside {
     #[tactic(auto, using(crate::proofs::capacity::HeldLaws::held_is), unfolding(crate::specs::Capacity::share_above))]
-    fn held(self, roots: &Roots, a: u64) -> u64
+    fn held<R: FindRoot>(self, roots: &R, a: u64) -> u64
         requires { a ≤ self.curve.m }
         ensures { result ≡ held self.curve.c self.curve.m self.curve.e a }
     {
@@ -103,7 +102,7 @@ impl Inside {
 
     // What is held below an ordinate with the share t above it.
     #[tactic(auto, unfolding(crate::specs::Capacity::held_at))]
-    fn held_at(self, roots: &Roots, t: Share) -> u64
+    fn held_at<R: FindRoot>(self, roots: &R, t: Share) -> u64
         ensures { result ≡ held_at self.curve.c self.curve.e t }
     {
         let c = self.curve.c;
@@ -113,38 +112,39 @@ impl Inside {
 
     // The last ordinate with the least share or more above it.
     #[tactic(auto, using(crate::proofs::capacity::ShareLaws::ordinate_by_share), unfolding(crate::specs::Capacity::last_above))]
-    fn ordinate(self, roots: &Roots, w: u64) -> u64
+    fn ordinate<R: FindRoot>(self, roots: &R, w: u64) -> u64
         requires { w ≤ self.curve.c }
         ensures { result ≡ ordinate self.curve.c self.curve.m self.curve.e w }
     {
         let m = self.curve.m;
         let t = self.least_share(roots, w);
-        m - (t * m + (ONE - 1)) / ONE
+        m - (t.parts * m).div_ceil(ONE)
     }
 
     // The interval from lo to hi is narrowed: with the share hi at most w is held, with lo more. The first trial is a guess. From it the
     // trials go 1 share on, 1 again, 2, 4 and so on, and where that leaves the interval to its middle. Any share between lo and hi would do.
+    // The share is yielded by break, as document 01 has it.
     #[tactic(auto, using(crate::proofs::capacity::ShareLaws::search_laws))]
-    fn least_share(self, roots: &Roots, w: u64) -> u64
+    fn least_share<R: FindRoot>(self, roots: &R, w: u64) -> Share
         requires { w ≤ self.curve.c }
-        ensures { (result ≡ least_share self.curve.c self.curve.e w) × (result ≤ one) }
+        ensures { result ≡ least_share self.curve.c self.curve.e w }
     {
         let c = self.curve.c;
         if w == c {
-            return 0;
+            return Share { parts: 0 };
         }
         // with a lesser power more than w is held
-        let power = ((c - w) * ONE + c - 1) / c;
+        let power = ((c - w) * ONE).div_ceil(c);
         let mut lo = 0;
         let mut hi = ONE;
         let mut at = guesses::share_of(power, self.curve.e);
-        let mut step = 1;
+        let mut step = 1u64;
         loop {
-            let far = (step + 1) / 2;
+            let far = step.div_ceil(2);
             step = (step * 2).min(ONE);
             if self.held_at(roots, Share { parts: at }) <= w {
                 if at - lo <= 1 {
-                    break at;
+                    break Share { parts: at };
                 }
                 hi = at;
                 at = if far < hi - lo {
@@ -154,7 +154,7 @@ impl Inside {
                 };
             } else {
                 if hi - at <= 1 {
-                    break hi;
+                    break Share { parts: hi };
                 }
                 lo = at;
                 at = if far < hi - lo {

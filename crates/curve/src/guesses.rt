@@ -7,7 +7,7 @@ ghost use Rattle.curve.specs.Workers.{log};
 use common::shares::ONE;
 
 // Logarithms are to base 2 and in parts of 2^24.
-const LOG: u64 = 16777216;
+const LOG: u64 = 1 << 24;
 
 // A share near the least with a Power of p at least. Without rounding it would be 65,536 * (p / 65,536)^(16 / e); Power rounds down at each
 // factor but the first, for which the share is greater by 9/8 * 16 / e on the mean. With 3/16 more, cut to a whole number, most guesses are
@@ -23,7 +23,7 @@ pub fn share_of(p: u64, e: u64) -> u64
         return ONE - 1;
     }
     let turned = 16 * LOG / e;
-    let factors = e / 16 - 1 + e / 8 % 2 + e / 4 % 2 + e / 2 % 2 + e % 2;
+    let factors = e / 16 - 1 + u64::from((e % 16).count_ones());
     let t = (antilog_of(scaled(log_of(p), turned)) + scaled(576 * factors, turned) + 96) / 512;
     t.clamp(1, ONE - 1)
 }
@@ -31,9 +31,10 @@ pub fn share_of(p: u64, e: u64) -> u64
 // By how much the logarithm of p is below that of 65,536: the leading zeros of 16 bits, and -log2(1 - w / 2) for what is left, w from 0 to 1, by
 // a polynomial that is off by 0.000003 at most.
 fn log_of(p: u64) -> u64
+    requires { p < one }
     ensures { result ≤ 18 * log }
 {
-    let zeros = (u64::leading_zeros(p) % 16) as u64;
+    let zeros = u64::from((p as u16).leading_zeros());
     let w = LOG - (p << zeros) % 32768 * 512;
     let w2 = scaled(w, w);
     let high = 806046 + scaled(913259, w) - scaled(523229 - scaled(420979, w), w2);

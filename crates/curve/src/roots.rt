@@ -42,7 +42,7 @@ pub fn printed_roots() -> Roots
     ROOTS
 }
 
-// The first guess is the mean of t and 65,536, and a guess whose square is too great goes down.
+// By a few steps, where std's `isqrt` halves 32 times: the first guess is the mean of t and 65,536, and one whose square is too great goes down.
 impl FindRoot for Newton {
     #[tactic(auto, using(crate::proofs::capacity::RootLaws::newton))]
     fn root_of(&self, t: Share) -> Share {
@@ -115,10 +115,8 @@ fn near(roots: &Roots, t: u64) -> Option<u64>
     ensures { Leads roots.now t result }
 {
     let r = entry(roots, t / 64)? * 8;
-    if r == 0 {
-        return None;
-    }
-    Some((r + t * ONE / r) / 2)
+    let q = (t * ONE).checked_div(r)?;
+    Some((r + q) / 2)
 }
 
 // An entry, where it is not above those of the printed table.
@@ -127,9 +125,6 @@ fn entry(roots: &Roots, k: u64) -> Option<u64>
     requires { k < 1024 }
     ensures { Enters roots.now k result }
 {
-    let e = roots[k as usize] as u64;
-    if MOST_ENTRY < e {
-        return None;
-    }
-    Some(e)
+    let e = u64::from(roots[k as usize]);
+    (e <= MOST_ENTRY).then_some(e)
 }

@@ -22,12 +22,12 @@ pub struct Taken {
 }
 
 // The limits of a store call.
-const MOST_INFLOW: u64 = 4611686018427387904; // 2^62
+const MOST_INFLOW: u64 = 1 << 62;
 
-pub const MOST_CONTENT: u64 = 72057594037927936; // 2^56
+pub const MOST_CONTENT: u64 = 1 << 56;
 
 impl Store {
-    // Takes the inflow, and hands back the store and its outflow.
+    // Takes the inflow, and hands back the store and its outflow: by `mut self`, as document 01 has it.
     #[tactic(auto, using(crate::proofs::store::StoreLaws::store_accepts, crate::proofs::store::StoreLaws::store_refuses), unfolding(crate::specs::Store::content))]
     pub fn take(mut self, inflow: u64) -> Taken
         ensures { as_released result ≡ store_call self inflow }

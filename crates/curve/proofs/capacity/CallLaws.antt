@@ -10,8 +10,7 @@ use Rattle.common.specs.Limits.{within}
 use Rattle.common.proofs.Limits.{refuted, both, parts, within_in, within_limits}
 use Rattle.common.proofs.Refusals.{number_some}
 pub use Rattle.curve.specs.Workers.{CurveIn}
-use Rattle.curve.specs.Capacity.{root, power, held, ordinate, rise}
-use Rattle.curve.specs.Capacity.{Answer, as_answer, value, refused, least_e, most_e, most_c, most_m, curve_in, root_call, power_call, held_call, ordinate_call}
+use Rattle.curve.specs.Capacity.{root, power, held, ordinate, rise, Answer, as_answer, value, refused, least_e, most_e, most_c, most_m, curve_in, root_call, power_call, held_call, ordinate_call}
 use Rattle.curve.proofs.capacity.HeldLaws.{ordinate_le}
 
 -- an accepted answer is Ok: no refusal has the number 0
@@ -105,15 +104,28 @@ pub unwrapped : {r : Result ℕ Refusal} {x v : ℕ} → r ≡ Ok v → r ≡ Ok
 unwrapped is got = ap (λ (r : Result ℕ Refusal). (as_answer r).value) (sym got ∙ is)
 
 -- a rise by two calls: from the ordinate of w up by net rain, and what is held there
-module _ {c m e w from : ℕ} {r : Result ℕ Refusal} (curve : CurveIn c m e) (below : w ≤ c) (called : as_answer r ≡ ordinate_call c m e w) (got : r ≡ Ok from) where
-  from_is : from ≡ ordinate c m e w
-  from_is = unwrapped (ordinate_ok c m e w curve below called) got
+module _ {c m e w : ℕ} {from : Answer} (curve : CurveIn c m e) (below : w ≤ c) (called : from ≡ ordinate_call c m e w) where
+  from_is : from.value ≡ ordinate c m e w
+  from_is = ap (λ (a : Answer). a.value) (called ∙ ordinate_accepts c m e w curve below)
 
-  pub from_le : from ≤ m
+  pub from_le : from.value ≤ m
   from_le = omega (arith, from_is, ordinate_le c m e w)
 
-  pub risen : (pe : ℕ) {k to : ℕ} {s : Result ℕ Refusal} → k ≡ min (from + pe) m → as_answer s ≡ held_call c m e k → s ≡ Ok to → to ≡ rise c m e w pe
+  pub risen : (pe : ℕ) {k : ℕ} {to : Answer} → k ≡ min (from.value + pe) m → to ≡ held_call c m e k → to.value ≡ rise c m e w pe
   unfolding rise
-  risen pe {k} at asked there =
+  risen pe {k} at asked =
       let up : k ≡ min (ordinate c m e w + pe) m = at ∙ ap (λ (x : ℕ). min (x + pe) m) from_is in
-      unwrapped (held_ok c m e k curve (omega (arith, at)) asked) there ∙ ap (held c m e) up
+      ap (λ (a : Answer). a.value) (asked ∙ held_accepts c m e k curve (omega (arith, at))) ∙ ap (held c m e) up
+
+-- the same of the two values, unwrapped
+module _ {c m e w from : ℕ} {r : Result ℕ Refusal} (curve : CurveIn c m e) (below : w ≤ c) (called : as_answer r ≡ ordinate_call c m e w) (got : r ≡ Ok from) where
+  value_is : (as_answer r).value ≡ from
+  value_is = ap (λ (r : Result ℕ Refusal). (as_answer r).value) got
+
+  pub ok_le : from ≤ m
+  ok_le = omega (arith, value_is, from_le curve below called)
+
+  pub ok_risen : (pe : ℕ) {k to : ℕ} {s : Result ℕ Refusal} → k ≡ min (from + pe) m → as_answer s ≡ held_call c m e k → s ≡ Ok to → to ≡ rise c m e w pe
+  ok_risen pe at asked there =
+      sym (ap (λ (s : Result ℕ Refusal). (as_answer s).value) there)
+      ∙ risen curve below called pe (at ∙ ap (λ (x : ℕ). min (x + pe) m) (sym value_is)) asked

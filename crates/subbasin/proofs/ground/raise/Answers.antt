@@ -1,6 +1,6 @@
 -- `subbasin::ground::raise` meets its contract: both calls of the curve are inside its limits. Assumes nothing.
 use native.Mathlib.Omega.{arith}
-use Rattle.curve.proofs.capacity.CallLaws.{curve_limits, ordinate_ok, held_ok, unwraps, from_le, risen}
+use Rattle.curve.proofs.capacity.CallLaws.{curve_limits, ordinate_ok, held_ok, unwraps, ok_le, ok_risen}
 use Rattle.subbasin.proofs.ground.raise.Goals as goal
 
 pub unwrap-from-requires : goal.unwrap-from-requires
@@ -9,11 +9,11 @@ unwrap-from-requires c = unwraps (ordinate_ok _ _ _ _ (curve_limits _ _ _ c.requ
 pub overflow_add-from : goal.overflow_add-from
 overflow_add-from c =
     let inside = curve_limits _ _ _ c.requires.0 in
-    omega (arith, from_le inside c.requires.1 c.ordinate.ensures c.unwrap-from.ensures, inside, c.requires.2)
+    omega (arith, ok_le inside c.requires.1 c.ordinate.ensures c.unwrap-from.ensures, inside, c.requires.2)
 
 pub unwrap-requires : goal.unwrap-requires
 unwrap-requires c = unwraps (held_ok _ _ _ _ (curve_limits _ _ _ c.requires.0) (omega (arith, c.min.ensures)) c.held.ensures)
 
 pub returns : goal.returns
 returns c =
-    risen (curve_limits _ _ _ c.requires.0) c.requires.1 c.ordinate.ensures c.unwrap-from.ensures _ c.min.ensures c.held.ensures c.unwrap.ensures
+    ok_risen (curve_limits _ _ _ c.requires.0) c.requires.1 c.ordinate.ensures c.unwrap-from.ensures _ c.min.ensures c.held.ensures c.unwrap.ensures
