@@ -84,27 +84,6 @@ pub up_to_more : (b d : ℕ) (xs : List ℕ) → b ≤ d → UpTo b xs → UpTo 
 up_to_more b d [] l h = tt
 up_to_more b d (x ∷ xs) l h = (omega arith, up_to_more b d xs l h.1)
 
--- a look over the amounts from a place on, by index: the rest of it gives the answer
-pub record Looking (b : ℕ) (xs : List ℕ) (from i : ℕ) : Type 0 where
-  pub answer : all_up_to b (drop i xs) ≡ all_up_to b (drop from xs)
-
-module _ {b : ℕ} {xs : List ℕ} {from : ℕ} where
-  pub look_begin : Looking b xs from from
-  look_begin = record { answer = refl }
-
-  module _ {i : ℕ} (s : Looking b xs from i) where
-    pub look_turn : i < length xs → get_or xs i 0 ≤ b → Looking b xs from (i + 1)
-    unfolding all_up_to
-    look_turn l h = record { answer = sym (rw (drop-cons xs i 0 l, le-leb (get_or xs i 0) b h, add-one i)) ∙ s.answer }
-
-    pub look_stop : i < length xs → b < get_or xs i 0 → false ≡ all_up_to b (drop from xs)
-    unfolding all_up_to
-    look_stop l h = sym (rw (drop-cons xs i 0 l, lt-leb (get_or xs i 0) b h)) ∙ s.answer
-
-    pub look_end : length xs ≤ i → true ≡ all_up_to b (drop from xs)
-    unfolding all_up_to
-    look_end h = sym (rw (drop_of_length-le xs {i = i} h)) ∙ s.answer
-
 -- the test as the library's `all` has it
 pub all_listed : (b : ℕ) (xs : List ℕ) → list_all (λ x. leb x b) xs ≡ all_up_to b xs
 unfolding all_up_to
