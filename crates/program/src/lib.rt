@@ -25,27 +25,22 @@ use std::rt::Files;
 use std::{fs, io};
 use text::Output;
 
-// How a run ends.
+// How a run ends, by its exit status.
 #[derive(Clone, Copy, Debug, PartialEq, Eq)]
 pub enum Ended {
     // All was read and printed.
-    All,
+    All = 0,
     // The load was refused, the forcing ends inside a step, or a file could not be opened.
-    NotAll,
+    NotAll = 1,
     // A read or a write failed on the way.
-    Failed,
+    Failed = 3,
 }
 
-// The exit status.
 impl From<Ended> for u8 {
     ghost from_gives = { λ ended status. status ≡ status_of ended };
 
     fn from(ended: Ended) -> u8 {
-        match ended {
-            Ended::All => 0,
-            Ended::NotAll => 1,
-            Ended::Failed => 3,
-        }
+        ended as u8
     }
 }
 
