@@ -14,7 +14,7 @@ ghost use Rattle.std.specs.Io.KnownBytes.{Appends};
 ghost use Rattle.common.specs.Refusals.{number_of};
 ghost use Rattle.basin.specs.File.{as_loaded, load_call};
 ghost use Rattle.program.specs.Print.{load_text, printed};
-ghost use Rattle.program.specs.Ended.{status_of};
+ghost use Rattle.program.specs.Ended.{ended_in, status_of};
 ghost use Rattle.program.specs.Workers.{Prints, StartOf};
 
 use basin::file;
@@ -54,24 +54,43 @@ pub fn account<F: Files, W: io::Write, E: io::Write>(
 ) -> Ended
     ensures { Prints result (W.contents to.old) (W.contents to.new) }
 {
+    match print_files(files, to, said, basin, forcing) {
+        Ok(()) => Ended::All,
+        Err(ended) => ended,
+    }
+}
+
+// Does the work of `account`: an Err is an ending before all was read and printed.
+fn print_files<F: Files, W: io::Write, E: io::Write>(
+    files: &F,
+    to: &mut W,
+    said: &mut E,
+    basin: &[u8],
+    forcing: &[u8],
+) -> Result<(), Ended>
+    ensures { Prints (ended_in result) (W.contents to.old) (W.contents to.new) }
+{
     // 4,096 bytes, which no legal basin file has: the start of a longer one is refused as the whole is.
     let mut bytes = [0u8; 4096];
-    let mut out = Output::new();
     let start = read_start(files, said, basin, &mut bytes);
     let size = start.unwrap_or(0);
-    let mut streams = Streams { to, said };
+    let mut streams = Streams {
+        to,
+        said,
+        out: Output::new(),
+    };
     let mut basin = match file::load(&bytes[..size]) {
         Ok(basin) => basin,
-        Err(refused) => return refuse(&mut streams, &mut out, start, &bytes[..size], refused),
+        Err(refused) => return refuse(&mut streams, start, &bytes[..size], refused),
     };
     let mut file = match open(files, forcing) {
         Ok(file) => file,
         Err(error) => {
             say::failed(streams.said, b"forcing.bin: could not be opened", error);
-            return Ended::NotAll;
+            return Err(Ended::NotAll);
         }
     };
-    run::run(&mut file, &mut streams, &mut basin, &mut out)
+    run::run(&mut file, &mut streams, &mut basin)
 }
 
 // Opens a file to be read. The library's paths are text: one that is none can't be opened.
@@ -112,26 +131,23 @@ fn read_start<F: Files, E: io::Write>(
 // starts with these bytes.
 fn refuse<W: io::Write, E: io::Write>(
     streams: &mut Streams<'_, W, E>,
-    out: &mut Output,
     start: Result<usize, Ended>,
     bytes: &[u8],
     refused: Refused,
-) -> Ended
+) -> Result<(), Ended>
     requires { as_loaded (Err refused) ≡ load_call bytes.now }
     ensures same_reference { streams.new.to.ghost_name ≡ streams.old.to.ghost_name }
-    ensures text { out.new ≡ load_text (number_of refused.why) refused.place }
-    ensures printed { (result ≡ Ended.Failed → ⊥)
+    ensures text { streams.new.out ≡ load_text (number_of refused.why) refused.place }
+    ensures printed { (ended_in result ≡ Ended.Failed → ⊥)
         → Appends (W.contents streams.old.to.now) (W.contents streams.new.to.now) (load_text (number_of refused.why) refused.place) }
-    ensures whole { (file forcing : List ℕ) → StartOf file bytes.now → out.new ≡ printed file forcing }
+    ensures whole { (file forcing : List ℕ) → StartOf file bytes.now → streams.new.out ≡ printed file forcing }
 {
-    out.set_load(refused);
-    let is_printed = streams.print(out, 1);
+    streams.out.set_load(refused);
+    let printed = streams.print(1);
     if start.is_ok() {
         say::refused_load(streams.said, bytes, refused);
     }
-    if is_printed {
-        start.err().unwrap_or(Ended::NotAll)
-    } else {
-        Ended::Failed
-    }
+    printed?;
+    start?;
+    Err(Ended::NotAll)
 }

@@ -3,7 +3,7 @@
 ghost use Rattle.std.specs.Prelude.{◌≡◌, ◌+◌, ◌*◌, ◌≤◌, ◌<◌, ◌^◌, length, take, IfOk};
 ghost use Rattle.std.specs.Io.KnownBytes.{Appends};
 ghost use Rattle.program.specs.Print.{step_bytes, part_text};
-ghost use Rattle.program.specs.Ended.{Ends};
+ghost use Rattle.program.specs.Ended.{Ends, ended_in};
 ghost use Rattle.program.specs.Workers.{RunOf, Stepped};
 
 use crate::print::Streams;
@@ -25,11 +25,10 @@ pub fn run<R: io::Read, W: io::Write, E: io::Write>(
     from: &mut R,
     streams: &mut Streams<'_, W, E>,
     basin: &mut Basin,
-    out: &mut Output,
-) -> Ended
+) -> Result<(), Ended>
     requires { (1 ≤ basin.old.n) × (basin.old.n ≤ 32) }
     ensures same_reference { streams.new.to.ghost_name ≡ streams.old.to.ghost_name }
-    ensures run { RunOf basin.old result basin.new out.new
+    ensures run { RunOf basin.old (ended_in result) basin.new streams.new.out
         (W.contents streams.old.to.now) (W.contents streams.new.to.now) }
 {
     let n = basin.n;
@@ -44,51 +43,45 @@ pub fn run<R: io::Read, W: io::Write, E: io::Write>(
             Ok(count) => count,
             Err(error) => {
                 say::unread(streams.said, done, error);
-                return Ended::Failed;
+                return Err(Ended::Failed);
             }
         };
         let end = kept + count;
         let first = done + 1;
-        let steps = take_steps(&input[..end], out, basin, n, done);
+        let steps = take_steps(&input[..end], &mut streams.out, basin, n, done);
         done += steps;
         let used = steps as usize * size;
         input.copy_within(used..end, 0);
         kept = end - used;
-        if !streams.print(out, first) {
-            return Ended::Failed;
-        }
+        streams.print(first)?;
     }
-    end_run(streams, out, done, kept, size)
+    end_run(streams, done, kept, size)
 }
 
 // Leaves the line of a part step of size bytes in the output, where some of it has come, prints it, and answers how the run ends.
 #[tactic(auto, using(crate::proofs::print::PrintLaws::no_part, crate::proofs::print::PrintLaws::some_part))]
 fn end_run<W: io::Write, E: io::Write>(
     streams: &mut Streams<'_, W, E>,
-    out: &mut Output,
     done: u64,
     kept: usize,
     size: usize,
-) -> Ended
+) -> Result<(), Ended>
     requires { done < 2 ^ 62 }
     ensures same_reference { streams.new.to.ghost_name ≡ streams.old.to.ghost_name }
-    ensures ends { Ends kept result }
-    ensures part_put { out.new ≡ part_text kept }
-    ensures printed { (result ≡ Ended.Failed → ⊥)
+    ensures ends { Ends kept (ended_in result) }
+    ensures part_put { streams.new.out ≡ part_text kept }
+    ensures printed { (ended_in result ≡ Ended.Failed → ⊥)
         → Appends (W.contents streams.old.to.now) (W.contents streams.new.to.now) (part_text kept) }
 {
     if kept == 0 {
-        out.clear();
-        return Ended::All;
+        streams.out.clear();
+        return Ok(());
     }
-    out.set_short(kept as u64);
-    let is_printed = streams.print(out, done + 1);
+    streams.out.set_short(kept as u64);
+    let printed = streams.print(done + 1);
     say::short(streams.said, kept as u64, size as u64, done + 1);
-    if is_printed {
-        Ended::NotAll
-    } else {
-        Ended::Failed
-    }
+    printed?;
+    Err(Ended::NotAll)
 }
 
 // Takes the whole steps of bytes, puts their lines into the output in place of what is there, and answers how many steps these are.

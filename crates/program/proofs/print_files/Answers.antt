@@ -1,10 +1,10 @@
--- `program::account` meets its contract: what is printed is what document 01 has for the files. Assumes nothing.
+-- `program::print_files` meets its contract: what is printed is what document 01 has for the files. Assumes nothing.
 use Rattle.std.proofs.Common.{rules, [], sym, subst, take, ◌∙◌}
 use Rattle.std.specs.Io.KnownBytes.{Appends}
 use Rattle.std.proofs.KnownBytes.{Appends-nil}
 use Rattle.program.specs.Print.{printed}
 use Rattle.program.proofs.run.PrintedLaws.{printed_all, printed_accepted, run_nothing, loaded_some}
-use Rattle.program.proofs.account.Goals as goal
+use Rattle.program.proofs.print_files.Goals as goal
 
 pub returns-in-Err : goal.returns-in-Err
 returns-in-Err g c =
