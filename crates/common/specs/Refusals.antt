@@ -1,5 +1,7 @@
--- The refusals' numbers: document 01, "Who sent it".
-use Rattle.std.specs.Prelude.{ℕ}
+-- The refusals' numbers and words: document 01, "Who sent it".
+use Rattle.std.specs.Prelude.{ℕ, Bool, true, false, cond, List, ◌++◌, codes}
+use Rattle.std.specs.Fmt.{decimal}
+use Rattle.common.specs.declared.refusal.Refused.{Refused}
 use Rattle.common.specs.declared.refusal.Refusal.{Refusal}
 use Rattle.common.specs.declared.refusal.Refusal.TheVariants.{FewBytes, Counts, Length, Word, LineCount, RainMissing, BadNumber, AboveLimit, BadBasin, OutOfRange, NoSuchSubBasin}
 
@@ -15,3 +17,30 @@ number_of AboveLimit = 8
 number_of BadBasin = 9
 number_of OutOfRange = 10
 number_of NoSuchSubBasin = 11
+
+-- what a refusal says
+abbrev pub refusal_text : Refusal → List ℕ
+refusal_text FewBytes = codes "a file of fewer than 8 bytes"
+refusal_text Counts = codes "N or M outside its range"
+refusal_text Length = codes "a file whose length is not that of N and M"
+refusal_text Word = codes "a word outside its range"
+refusal_text LineCount = codes "a count of lines that is not N"
+refusal_text RainMissing = codes "rain missing"
+refusal_text BadNumber = codes "not a number, infinite or below zero"
+refusal_text AboveLimit = codes "above its limit"
+refusal_text BadBasin = codes "a basin that is not allowed"
+refusal_text OutOfRange = codes "an argument outside its range"
+refusal_text NoSuchSubBasin = codes "no such sub-basin"
+
+-- whether it has a place of its own: a word of the file, or a line
+abbrev pub is_placed : Refusal → Bool
+is_placed Counts = true
+is_placed Word = true
+is_placed RainMissing = true
+is_placed BadNumber = true
+is_placed AboveLimit = true
+is_placed _ = false
+
+-- and what it says with its place
+abbrev pub refused_text : Refused → List ℕ
+refused_text r = cond (is_placed r.why) (refusal_text r.why ++ codes ", at place " ++ decimal r.place) (refusal_text r.why)

@@ -1,6 +1,9 @@
 // Why a call is refused, and where: document 01, "Who sent it".
-ghost use Rattle.std.specs.Prelude.{◌≡◌};
-ghost use Rattle.common.specs.Refusals.{number_of};
+ghost use Rattle.std.specs.Prelude.{◌≡◌, Some};
+ghost use Rattle.common.specs.Refusals.{number_of, is_placed, refusal_text, refused_text};
+
+use std::error::Error;
+use std::fmt;
 
 // What is wrong, by its number.
 #[derive(Clone, Copy, Debug, PartialEq, Eq)]
@@ -35,7 +38,43 @@ impl Refusal {
     {
         self as u64
     }
+
+    // Whether it has a place of its own, which is told with it.
+    fn is_placed(self) -> bool
+        ensures { result ≡ is_placed self }
+    {
+        matches!(
+            self,
+            Refusal::Counts
+                | Refusal::Word
+                | Refusal::RainMissing
+                | Refusal::BadNumber
+                | Refusal::AboveLimit
+        )
+    }
 }
+
+impl fmt::Display for Refusal {
+    ghost output = { λ why. Some (refusal_text why) };
+
+    fn fmt<W: fmt::Write>(&self, f: &mut fmt::Formatter<W>) -> fmt::Result {
+        f.write_str(match self {
+            Refusal::FewBytes => "a file of fewer than 8 bytes",
+            Refusal::Counts => "N or M outside its range",
+            Refusal::Length => "a file whose length is not that of N and M",
+            Refusal::Word => "a word outside its range",
+            Refusal::LineCount => "a count of lines that is not N",
+            Refusal::RainMissing => "rain missing",
+            Refusal::BadNumber => "not a number, infinite or below zero",
+            Refusal::AboveLimit => "above its limit",
+            Refusal::BadBasin => "a basin that is not allowed",
+            Refusal::OutOfRange => "an argument outside its range",
+            Refusal::NoSuchSubBasin => "no such sub-basin",
+        })
+    }
+}
+
+impl Error for Refusal {}
 
 // A refusal and its place.
 #[derive(Clone, Copy, Debug, PartialEq, Eq)]
@@ -52,3 +91,18 @@ impl From<Refusal> for Refused {
         Refused { why, place: 0 }
     }
 }
+
+impl fmt::Display for Refused {
+    ghost output = { λ r. Some (refused_text r) };
+
+    fn fmt<W: fmt::Write>(&self, f: &mut fmt::Formatter<W>) -> fmt::Result {
+        let Refused { why, place } = *self;
+        if why.is_placed() {
+            write!(f, "{why}, at place {place}")
+        } else {
+            write!(f, "{why}")
+        }
+    }
+}
+
+impl Error for Refused {}

@@ -53,7 +53,7 @@ pub fn power<R: FindRoot>(roots: &R, t: u64, e: u64) -> Result<u64, Refusal>
 impl Curve {
     // What is held below the ordinate a.
     #[tactic(auto, using(crate::proofs::capacity::CallLaws::held_accepts, crate::proofs::capacity::CallLaws::held_refuses))]
-    pub fn held(self, roots: &Roots, a: u64) -> Result<u64, Refusal>
+    pub fn held<R: FindRoot>(self, roots: &R, a: u64) -> Result<u64, Refusal>
         ensures { as_answer result ≡ held_call self.c self.m self.e a }
     {
         if !self.is_inside() || self.m < a {
@@ -64,7 +64,7 @@ impl Curve {
 
     // The greatest ordinate below which at most w is held.
     #[tactic(auto, using(crate::proofs::capacity::CallLaws::ordinate_accepts, crate::proofs::capacity::CallLaws::ordinate_refuses))]
-    pub fn ordinate(self, roots: &Roots, w: u64) -> Result<u64, Refusal>
+    pub fn ordinate<R: FindRoot>(self, roots: &R, w: u64) -> Result<u64, Refusal>
         ensures { as_answer result ≡ ordinate_call self.c self.m self.e w }
     {
         if !self.is_inside() || self.c < w {
@@ -92,7 +92,7 @@ struct Inside {
 
 impl Inside {
     #[tactic(auto, using(crate::proofs::capacity::HeldLaws::held_is), unfolding(crate::specs::Capacity::share_above))]
-    fn held(self, roots: &Roots, a: u64) -> u64
+    fn held<R: FindRoot>(self, roots: &R, a: u64) -> u64
         requires { a ≤ self.curve.m }
         ensures { result ≡ held self.curve.c self.curve.m self.curve.e a }
     {
@@ -103,7 +103,7 @@ impl Inside {
 
     // What is held below an ordinate with the share t above it.
     #[tactic(auto, unfolding(crate::specs::Capacity::held_at))]
-    fn held_at(self, roots: &Roots, t: Share) -> u64
+    fn held_at<R: FindRoot>(self, roots: &R, t: Share) -> u64
         ensures { result ≡ held_at self.curve.c self.curve.e t }
     {
         let c = self.curve.c;
@@ -113,7 +113,7 @@ impl Inside {
 
     // The last ordinate with the least share or more above it.
     #[tactic(auto, using(crate::proofs::capacity::ShareLaws::ordinate_by_share), unfolding(crate::specs::Capacity::last_above))]
-    fn ordinate(self, roots: &Roots, w: u64) -> u64
+    fn ordinate<R: FindRoot>(self, roots: &R, w: u64) -> u64
         requires { w ≤ self.curve.c }
         ensures { result ≡ ordinate self.curve.c self.curve.m self.curve.e w }
     {
@@ -125,7 +125,7 @@ impl Inside {
     // The interval from lo to hi is narrowed: with the share hi at most w is held, with lo more. The first trial is a guess. From it the
     // trials go 1 share on, 1 again, 2, 4 and so on, and where that leaves the interval to its middle. Any share between lo and hi would do.
     #[tactic(auto, using(crate::proofs::capacity::ShareLaws::search_laws))]
-    fn least_share(self, roots: &Roots, w: u64) -> u64
+    fn least_share<R: FindRoot>(self, roots: &R, w: u64) -> u64
         requires { w ≤ self.curve.c }
         ensures { (result ≡ least_share self.curve.c self.curve.e w) × (result ≤ one) }
     {
