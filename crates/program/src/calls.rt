@@ -3,8 +3,7 @@ ghost use Rattle.std.specs.Prelude.{◌≤◌, ◌<◌, length, IfOk, IfErr, OnO
 ghost use Rattle.std.specs.Io.{ReadsAtMost, WritesAtMost};
 ghost use Rattle.std.specs.Io.KnownBytes.{Appends, ReadConsumes, WriteAppends};
 
-use std::io;
-use std::io::ErrorKind;
+use std::io::{self, ErrorKind};
 
 // More calls than a run has time for.
 const CALLS: u64 = u64::MAX;

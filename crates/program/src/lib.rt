@@ -20,9 +20,9 @@ ghost use Rattle.program.specs.Workers.{Prints, StartOf};
 use basin::file;
 use common::refusal::Refused;
 use print::Streams;
-use std::io::ErrorKind;
+use std::fs;
+use std::io::{self, ErrorKind};
 use std::rt::Files;
-use std::{fs, io};
 use text::Output;
 
 // How a run ends, by its exit status.
@@ -83,17 +83,14 @@ fn print_files<F: Files, W: io::Write, E: io::Write>(
         Ok(basin) => basin,
         Err(refused) => return refuse(&mut streams, start, &bytes[..size], refused),
     };
-    let mut file = match open(files, forcing) {
-        Ok(file) => file,
-        Err(error) => {
-            say::failed(streams.said, b"forcing.bin: could not be opened", error);
-            return Err(Ended::NotAll);
-        }
-    };
+    let mut file = open(files, forcing).map_err(|error| {
+        say::failed(streams.said, b"forcing.bin: could not be opened", error);
+        Ended::NotAll
+    })?;
     run::run(&mut file, &mut streams, &mut basin)
 }
 
-// Opens a file to be read. The library's paths are text: one that is none can't be opened.
+// Opens a file to be read. std's paths are text: one that is none can't be opened. Bytes are asked for, as text would be more.
 fn open<F: Files>(files: &F, path: &[u8]) -> io::Result<F::File> {
     match str::from_utf8(path) {
         Ok(text) => fs::open(files, text),
@@ -111,20 +108,14 @@ fn read_start<F: Files, E: io::Write>(
 ) -> Result<usize, Ended>
     ensures { ReadsAtMost result bytes.new }
 {
-    let mut file = match open(files, path) {
-        Ok(file) => file,
-        Err(error) => {
-            say::failed(said, b"basin.bin: could not be opened", error);
-            return Err(Ended::NotAll);
-        }
-    };
-    match calls::read_full(&mut file, bytes) {
-        Ok(count) => Ok(count),
-        Err(error) => {
-            say::failed(said, b"basin.bin: could not be read", error);
-            Err(Ended::Failed)
-        }
-    }
+    let mut file = open(files, path).map_err(|error| {
+        say::failed(said, b"basin.bin: could not be opened", error);
+        Ended::NotAll
+    })?;
+    calls::read_full(&mut file, bytes).map_err(|error| {
+        say::failed(said, b"basin.bin: could not be read", error);
+        Ended::Failed
+    })
 }
 
 // Prints a refused load, and says why where its reading has not said so. What is printed is all that document 01 has for every file that
@@ -145,7 +136,7 @@ fn refuse<W: io::Write, E: io::Write>(
     streams.out.set_load(refused);
     let printed = streams.print(1);
     if start.is_ok() {
-        say::refused_load(streams.said, bytes, refused);
+        say::refused_load(streams.said, bytes, refused.why.number(), refused.place);
     }
     printed?;
     start?;

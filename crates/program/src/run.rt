@@ -15,10 +15,10 @@ use forcing::file;
 use std::io;
 
 // The most steps that are taken at a time.
-const STEPS: u64 = 64;
+const STEPS: usize = 64;
 
 // More reads than a run has time for.
-const READS: u64 = 36028797018963968; // 2^55
+const READS: u64 = 1 << 55;
 
 // Takes the steps that are read to their end, prints their lines, and answers how that ends. What was printed last is left in the output.
 pub fn run<R: io::Read, W: io::Write, E: io::Write>(
@@ -33,7 +33,7 @@ pub fn run<R: io::Read, W: io::Write, E: io::Write>(
 {
     let n = basin.n;
     let size = (file::LINE_BYTES * n) as usize;
-    let whole = STEPS as usize * size;
+    let whole = STEPS * size;
     let mut input = [0u8; 24576];
     let mut kept = 0;
     let mut done: u64 = 0;

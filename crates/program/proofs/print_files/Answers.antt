@@ -19,8 +19,8 @@ returns-in-Err g c =
           search (rules, put);
     }
 
-pub returns-in-Err-open : goal.returns-in-Err-open
-returns-in-Err-open g c =
+pub returns-in_err-file : goal.returns-in_err-file
+returns-in_err-file g c =
     let bytes = take c.unwrap_or-size.result c.read_start-start.new.bytes in
     let load = c.in-Ok.ensures.answers in
     record {
