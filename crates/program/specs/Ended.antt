@@ -17,7 +17,7 @@ pub record Ends (kept : ℕ) (ended : Ended) : Type 0 where
   pub failed : Bool
   pub ended_is : ended ≡ ended_of failed kept
 
--- how a part of a run ends it: an Err before all was read and printed
+-- how a run ends whose parts hand on an Err where it ends too soon
 abbrev pub ended_in : {T : Type 0} → Result T Ended → Ended
 ended_in (Ok _) = All
 ended_in (Err ended) = ended

@@ -60,7 +60,7 @@ pub fn account<F: Files, W: io::Write, E: io::Write>(
     }
 }
 
-// Does the work of `account`: an Err is an ending before all was read and printed.
+// Does the work of `account`; an Err is how it ends too soon.
 fn print_files<F: Files, W: io::Write, E: io::Write>(
     files: &F,
     to: &mut W,
@@ -70,7 +70,7 @@ fn print_files<F: Files, W: io::Write, E: io::Write>(
 ) -> Result<(), Ended>
     ensures { Prints (ended_in result) (W.contents to.old) (W.contents to.new) }
 {
-    // 4,096 bytes, which no legal basin file has: the start of a longer one is refused as the whole is.
+    // 4,096 bytes, which no legal basin file has: the start of a longer one is refused as the whole is. A buffer and a size, as in `run`.
     let mut bytes = [0u8; 4096];
     let start = read_start(files, said, basin, &mut bytes);
     let size = start.unwrap_or(0);

@@ -20,7 +20,8 @@ const STEPS: usize = 64;
 // More reads than a run has time for.
 const READS: u64 = 1 << 55;
 
-// Takes the steps that are read to their end, prints their lines, and answers how that ends. What was printed last is left in the output.
+// Takes the steps that are read to their end and prints their lines; an Err is how that ends too soon. What was printed last is left in
+// the output. Here and in take_steps n is asked to be from 1 to 32: a number alone, of which a type would be no plainer.
 pub fn run<R: io::Read, W: io::Write, E: io::Write>(
     from: &mut R,
     streams: &mut Streams<'_, W, E>,
@@ -34,6 +35,7 @@ pub fn run<R: io::Read, W: io::Write, E: io::Write>(
     let n = basin.n;
     let size = (file::LINE_BYTES * n) as usize;
     let whole = STEPS * size;
+    // A buffer, the first `kept` bytes of which are filled: a read goes into its free part, and an ArrayVec lends none.
     let mut input = [0u8; 24576];
     let mut kept = 0;
     let mut done: u64 = 0;
@@ -58,7 +60,7 @@ pub fn run<R: io::Read, W: io::Write, E: io::Write>(
     end_run(streams, done, kept, size)
 }
 
-// Leaves the line of a part step of size bytes in the output, where some of it has come, prints it, and answers how the run ends.
+// Leaves the line of a part step of size bytes in the output, where some of it has come, and prints it: the run then ends too soon.
 #[tactic(auto, using(crate::proofs::print::PrintLaws::no_part, crate::proofs::print::PrintLaws::some_part))]
 fn end_run<W: io::Write, E: io::Write>(
     streams: &mut Streams<'_, W, E>,
@@ -93,13 +95,11 @@ fn take_steps(bytes: &[u8], out: &mut Output, basin: &mut Basin, n: u64, done: u
     let size = (file::LINE_BYTES * n) as usize;
     let roots = capacity::printed_roots();
     out.clear();
-    let mut steps: u64 = 0;
-    for words in bytes.chunks_exact(size) {
-        steps += 1;
+    for (k, words) in bytes.chunks_exact(size).enumerate() {
         let outcome = basin.step_with(&roots, file::lines_of(words, n), n);
-        out.put_step(done + steps, &outcome);
+        out.put_step(done + k as u64 + 1, &outcome);
     }
-    steps
+    (bytes.len() / size) as u64
 }
 
 // Reads what is there, from index `from` up to index `to`; what lies before stays.
