@@ -12,7 +12,8 @@ use basin::step::Report;
 use common::refusal::Refused;
 use std::io;
 
-// Lines that are put together, where they are printed, and where it is said what failed.
+// Lines that are put together, where they are printed, and where it is said what failed. Whoever is lent one says that `to` is the same
+// reference after it (same_reference): without that nothing is known of the writer.
 #[derive(Drop)]
 pub struct Streams<'a, W: io::Write, E: io::Write> {
     pub to: &'a mut W,

@@ -61,7 +61,7 @@ pub fn run<R: io::Read, W: io::Write, E: io::Write>(
 }
 
 // Leaves the line of a part step of size bytes in the output, where some of it has come, and prints it: the run then ends too soon.
-#[tactic(auto, using(crate::proofs::print::PrintLaws::no_part, crate::proofs::print::PrintLaws::some_part))]
+#[tactic(auto, using(crate::proofs::print::PrintLaws::no_part, crate::proofs::print::PrintLaws::some_part, crate::proofs::print::PrintLaws::nothing_printed))]
 fn end_run<W: io::Write, E: io::Write>(
     streams: &mut Streams<'_, W, E>,
     done: u64,
