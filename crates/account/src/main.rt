@@ -2,10 +2,10 @@
 #![tactic(auto)]
 
 use program::{Ended, say};
-use std::fs::{OpenFile, OpenOptions};
+use std::fs::{self, OpenFile, OpenOptions};
+use std::io;
 use std::process::ExitCode;
 use std::rt::Files;
-use std::{fs, io};
 
 fn main(rt: HostRuntime) -> ExitCode {
     let mut said = rt.stderr();

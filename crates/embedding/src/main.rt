@@ -6,15 +6,16 @@ use basin::state::Basin;
 use basin::step::Report;
 use common::refusal::Refused;
 use forcing::list::{BLANK, Line, Reading};
-use std::io::Read;
-use std::{fs, io};
+use std::fs;
+use std::io::{self, Read};
 
 fn main(rt: HostRuntime) -> io::Result<()> {
     let mut bytes = [0u8; 4096]; // more than any legal file has
     let size = fs::metadata(&rt, "basin.bin")?.len().min(4096) as usize;
     fs::open(&rt, "basin.bin")?.read_exact(&mut bytes[..size])?;
-    let Ok(mut basin) = file::load(&bytes[..size]) else {
-        return Ok(()); // refused: the error says why, and where
+    let mut basin = match file::load(&bytes[..size]) {
+        Ok(basin) => basin,
+        Err(refused) => return eprintln!(rt; "basin.bin: {refused}"),
     };
     let monday = day(
         &mut basin,
@@ -32,7 +33,7 @@ fn main(rt: HostRuntime) -> io::Result<()> {
     print(&rt, wednesday)
 }
 
-// One step: it takes 32 lines and looks at the first two. One that is refused leaves the basin as it was; its error says why, and where.
+// One step: it takes 32 lines and looks at the first two. One that is refused leaves the basin as it was.
 fn day(basin: &mut Basin, first: Reading, second: Reading) -> Result<Report, Refused> {
     let mut lines = [BLANK; 32];
     lines[0] = Line {
@@ -46,10 +47,13 @@ fn day(basin: &mut Basin, first: Reading, second: Reading) -> Result<Report, Ref
     basin.step(lines, 2)
 }
 
-// Outlet volume and content, both 0 of a refused step.
-fn print(rt: &impl Print, day: Result<Report, Refused>) -> io::Result<()> {
+// Outlet volume and content, both 0 of a refused step, of which it is said on standard error why and where.
+fn print(rt: &(impl Print + Eprint), day: Result<Report, Refused>) -> io::Result<()> {
     match day {
         Ok(report) => println!(rt; "{} {}", report.outlet, report.content),
-        Err(_) => println!(rt; "0 0"),
+        Err(refused) => {
+            eprintln!(rt; "refused: {refused}")?;
+            println!(rt; "0 0")
+        }
     }
 }

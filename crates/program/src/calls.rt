@@ -1,10 +1,10 @@
-// Reading and writing that an interrupt does not end: the call is tried again.
+// Reading and writing that an interrupt does not end: the call is tried again. The loop stands twice, as in std: one that takes the call as
+// a closure was tried, and the proof could not follow what the closure borrows past its end.
 ghost use Rattle.std.specs.Prelude.{◌≤◌, ◌<◌, length, IfOk, IfErr, OnOk};
 ghost use Rattle.std.specs.Io.{ReadsAtMost, WritesAtMost};
 ghost use Rattle.std.specs.Io.KnownBytes.{Appends, ReadConsumes, WriteAppends};
 
-use std::io;
-use std::io::ErrorKind;
+use std::io::{self, ErrorKind};
 
 // More calls than a run has time for.
 const CALLS: u64 = u64::MAX;

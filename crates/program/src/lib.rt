@@ -14,38 +14,33 @@ ghost use Rattle.std.specs.Io.KnownBytes.{Appends};
 ghost use Rattle.common.specs.Refusals.{number_of};
 ghost use Rattle.basin.specs.File.{as_loaded, load_call};
 ghost use Rattle.program.specs.Print.{load_text, printed};
-ghost use Rattle.program.specs.Ended.{status_of};
+ghost use Rattle.program.specs.Ended.{ended_in, status_of};
 ghost use Rattle.program.specs.Workers.{Prints, StartOf};
 
 use basin::file;
 use common::refusal::Refused;
 use print::Streams;
-use std::io::ErrorKind;
+use std::fs;
+use std::io::{self, ErrorKind};
 use std::rt::Files;
-use std::{fs, io};
 use text::Output;
 
-// How a run ends.
+// How a run ends, by its exit status.
 #[derive(Clone, Copy, Debug, PartialEq, Eq)]
 pub enum Ended {
     // All was read and printed.
-    All,
+    All = 0,
     // The load was refused, the forcing ends inside a step, or a file could not be opened.
-    NotAll,
+    NotAll = 1,
     // A read or a write failed on the way.
-    Failed,
+    Failed = 3,
 }
 
-// The exit status.
 impl From<Ended> for u8 {
     ghost from_gives = { λ ended status. status ≡ status_of ended };
 
     fn from(ended: Ended) -> u8 {
-        match ended {
-            Ended::All => 0,
-            Ended::NotAll => 1,
-            Ended::Failed => 3,
-        }
+        ended as u8
     }
 }
 
@@ -59,27 +54,43 @@ pub fn account<F: Files, W: io::Write, E: io::Write>(
 ) -> Ended
     ensures { Prints result (W.contents to.old) (W.contents to.new) }
 {
-    // 4,096 bytes, which no legal basin file has: the start of a longer one is refused as the whole is.
-    let mut bytes = [0u8; 4096];
-    let mut out = Output::new();
-    let start = read_start(files, said, basin, &mut bytes);
-    let size = start.unwrap_or(0);
-    let mut streams = Streams { to, said };
-    let mut basin = match file::load(&bytes[..size]) {
-        Ok(basin) => basin,
-        Err(refused) => return refuse(&mut streams, &mut out, start, &bytes[..size], refused),
-    };
-    let mut file = match open(files, forcing) {
-        Ok(file) => file,
-        Err(error) => {
-            say::failed(streams.said, b"forcing.bin: could not be opened", error);
-            return Ended::NotAll;
-        }
-    };
-    run::run(&mut file, &mut streams, &mut basin, &mut out)
+    match print_files(files, to, said, basin, forcing) {
+        Ok(()) => Ended::All,
+        Err(ended) => ended,
+    }
 }
 
-// Opens a file to be read. The library's paths are text: one that is none can't be opened.
+// Does the work of `account`; an Err is how it ends too soon.
+fn print_files<F: Files, W: io::Write, E: io::Write>(
+    files: &F,
+    to: &mut W,
+    said: &mut E,
+    basin: &[u8],
+    forcing: &[u8],
+) -> Result<(), Ended>
+    ensures { Prints (ended_in result) (W.contents to.old) (W.contents to.new) }
+{
+    // 4,096 bytes, which no legal basin file has: the start of a longer one is refused as the whole is. A buffer and a size, as in `run`.
+    let mut bytes = [0u8; 4096];
+    let start = read_start(files, said, basin, &mut bytes);
+    let size = start.unwrap_or(0);
+    let mut streams = Streams {
+        to,
+        said,
+        out: Output::new(),
+    };
+    let mut basin = match file::load(&bytes[..size]) {
+        Ok(basin) => basin,
+        Err(refused) => return refuse(&mut streams, start, &bytes[..size], refused),
+    };
+    let mut file = open(files, forcing).map_err(|error| {
+        say::failed(streams.said, b"forcing.bin: could not be opened", error);
+        Ended::NotAll
+    })?;
+    run::run(&mut file, &mut streams, &mut basin)
+}
+
+// Opens a file to be read. std's paths are text: one that is none can't be opened. Bytes are asked for, as text would be more.
 fn open<F: Files>(files: &F, path: &[u8]) -> io::Result<F::File> {
     match str::from_utf8(path) {
         Ok(text) => fs::open(files, text),
@@ -97,46 +108,37 @@ fn read_start<F: Files, E: io::Write>(
 ) -> Result<usize, Ended>
     ensures { ReadsAtMost result bytes.new }
 {
-    let mut file = match open(files, path) {
-        Ok(file) => file,
-        Err(error) => {
-            say::failed(said, b"basin.bin: could not be opened", error);
-            return Err(Ended::NotAll);
-        }
-    };
-    match calls::read_full(&mut file, bytes) {
-        Ok(count) => Ok(count),
-        Err(error) => {
-            say::failed(said, b"basin.bin: could not be read", error);
-            Err(Ended::Failed)
-        }
-    }
+    let mut file = open(files, path).map_err(|error| {
+        say::failed(said, b"basin.bin: could not be opened", error);
+        Ended::NotAll
+    })?;
+    calls::read_full(&mut file, bytes).map_err(|error| {
+        say::failed(said, b"basin.bin: could not be read", error);
+        Ended::Failed
+    })
 }
 
 // Prints a refused load, and says why where its reading has not said so. What is printed is all that document 01 has for every file that
 // starts with these bytes.
 fn refuse<W: io::Write, E: io::Write>(
     streams: &mut Streams<'_, W, E>,
-    out: &mut Output,
     start: Result<usize, Ended>,
     bytes: &[u8],
     refused: Refused,
-) -> Ended
+) -> Result<(), Ended>
     requires { as_loaded (Err refused) ≡ load_call bytes.now }
     ensures same_reference { streams.new.to.ghost_name ≡ streams.old.to.ghost_name }
-    ensures text { out.new ≡ load_text (number_of refused.why) refused.place }
-    ensures printed { (result ≡ Ended.Failed → ⊥)
+    ensures text { streams.new.out ≡ load_text (number_of refused.why) refused.place }
+    ensures printed { (ended_in result ≡ Ended.Failed → ⊥)
         → Appends (W.contents streams.old.to.now) (W.contents streams.new.to.now) (load_text (number_of refused.why) refused.place) }
-    ensures whole { (file forcing : List ℕ) → StartOf file bytes.now → out.new ≡ printed file forcing }
+    ensures whole { (file forcing : List ℕ) → StartOf file bytes.now → streams.new.out ≡ printed file forcing }
 {
-    out.set_load(refused);
-    let is_printed = streams.print(out, 1);
+    streams.out.set_load(refused);
+    let printed = streams.print(1);
     if start.is_ok() {
-        say::refused_load(streams.said, bytes, refused);
+        say::refused_load(streams.said, bytes, refused.why.number(), refused.place);
     }
-    if is_printed {
-        start.err().unwrap_or(Ended::NotAll)
-    } else {
-        Ended::Failed
-    }
+    printed?;
+    start?;
+    Err(Ended::NotAll)
 }

@@ -1,40 +1,43 @@
 // The lines that the program prints: document 01, "What the program prints". A line has at most 129 bytes: six numbers of at most 20
 // digits, and 9 besides.
-ghost use Rattle.std.specs.Prelude.{◌≡◌, ◌++◌, ◌+◌, ◌≤◌, ◌<◌, ◌^◌, length, IsTrue};
+ghost use Rattle.std.specs.Prelude.{◌≡◌, ◌++◌, ◌+◌, ◌≤◌, ◌<◌, ◌^◌, length, OnOk, IfErr};
 ghost use Rattle.std.specs.Io.KnownBytes.{Appends};
 ghost use Rattle.common.specs.Refusals.{number_of};
 ghost use Rattle.program.specs.Print.{load_text, short_text};
 ghost use Rattle.program.specs.Workers.{Lines, outcome_text};
 
 use crate::text::{Output, ROOM};
-use crate::{calls, say};
+use crate::{Ended, calls, say};
 use basin::step::Report;
 use common::refusal::Refused;
 use std::io;
 
-// Where lines are printed, and where it is said what failed.
+// Lines that are put together, where they are printed, and where it is said what failed. Whoever is lent one says that `to` is the same
+// reference after it (same_reference): without that nothing is known of the writer.
 #[derive(Drop)]
 pub struct Streams<'a, W: io::Write, E: io::Write> {
     pub to: &'a mut W,
     pub said: &'a mut E,
+    pub out: Output,
 }
 
 impl<W: io::Write, E: io::Write> Streams<'_, W, E> {
-    // Prints lines, the first of which is line `first`, and answers whether it could; where not, that is said.
-    // A bool, no Result: what failed is said here, and its callers answer an Ended, so none hands it on by `?`.
-    pub fn print(&mut self, lines: &Output, first: u64) -> bool
+    // Prints the lines of the output, the first of which is line `first`. Where it can't, that is said, and the run ends by it.
+    pub fn print(&mut self, first: u64) -> Result<(), Ended>
         requires first_bound { first < 2 ^ 63 }
-        requires lines { Lines first lines.now }
+        requires lines { Lines first self.old.out }
         ensures same_reference { self.new.to.ghost_name ≡ self.old.to.ghost_name }
-        ensures printed { IsTrue result → Appends (W.contents self.old.to.now) (W.contents self.new.to.now) lines.now }
+        ensures out_kept { self.new.out ≡ self.old.out }
+        ensures printed { OnOk result (Appends (W.contents self.old.to.now) (W.contents self.new.to.now) self.old.out) }
+        ensures ended { IfErr result (λ ended. ended ≡ Ended.Failed) }
     {
-        let bytes = lines.as_bytes();
+        let bytes = self.out.as_bytes();
         match calls::write_full(self.to, bytes) {
-            Ok(()) => true,
+            Ok(()) => Ok(()),
             Err(unwritten) => {
                 let ended = lines_in(&bytes[..unwritten.count]);
                 say::unwritten(self.said, first + ended, unwritten.error);
-                false
+                Err(Ended::Failed)
             }
         }
     }

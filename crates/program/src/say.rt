@@ -11,23 +11,21 @@ use subbasin::record;
 // record::WORDS is the length of arrays; the file's counts are u64.
 const SUB_WORDS: u64 = record::WORDS as u64;
 
-// A load of bytes that was refused.
-pub fn refused_load<W: io::Write>(to: &mut W, bytes: &[u8], refused: Refused) {
+// A load of bytes that was refused with number and place.
+// A number, no Refusal: any is taken here, and a narrower type would ask more of a caller.
+pub fn refused_load<W: io::Write>(to: &mut W, bytes: &[u8], number: u64, place: u64) {
     let (n, m) = (word(bytes, 0), word(bytes, 1));
-    let place = refused.place;
-    let _ = match refused.why {
-        Refusal::FewBytes => writeln!(to, "basin.bin: has fewer than 8 bytes"),
-        Refusal::Length => {
-            let wanted = 4 * (2 + SUB_WORDS * n + reach::WORDS * m);
-            writeln!(
-                to,
-                "basin.bin: does not have the {wanted} bytes that N = {n} and M = {m} ask for"
-            )
-        }
-        _ => {
-            let word = word_at(place, n);
-            writeln!(to, "basin.bin: word {place} ({word}) is outside its range")
-        }
+    let _ = if number == Refusal::FewBytes.number() {
+        writeln!(to, "basin.bin: has fewer than 8 bytes")
+    } else if number == Refusal::Length.number() {
+        let wanted = 4 * (2 + SUB_WORDS * n + reach::WORDS * m);
+        writeln!(
+            to,
+            "basin.bin: does not have the {wanted} bytes that N = {n} and M = {m} ask for"
+        )
+    } else {
+        let word = Word::at(place, n);
+        writeln!(to, "basin.bin: word {place} ({word}) is outside its range")
     };
 }
 
@@ -40,15 +38,18 @@ enum Word {
     OfReach(u64),
 }
 
-fn word_at(place: u64, n: u64) -> Word
-    requires { n < 2 ^ 32 }
-{
-    let subs = SUB_WORDS * n;
-    match place {
-        0 => Word::N,
-        1 => Word::M,
-        _ if place - 2 < subs => Word::OfSubBasin(place - 2),
-        _ => Word::OfReach(place - 2 - subs),
+impl Word {
+    // The word at this place of a file of n sub-basins.
+    fn at(place: u64, n: u64) -> Word
+        requires { n < 2 ^ 32 }
+    {
+        let subs = SUB_WORDS * n;
+        match place {
+            0 => Word::N,
+            1 => Word::M,
+            _ if place - 2 < subs => Word::OfSubBasin(place - 2),
+            _ => Word::OfReach(place - 2 - subs),
+        }
     }
 }
 
@@ -81,32 +82,40 @@ pub fn short<W: io::Write>(to: &mut W, count: u64, size: u64, step: u64) {
 
 // A read of the forcing that failed when so many steps had been taken.
 pub fn unread<W: io::Write>(to: &mut W, steps: u64, error: io::Error) {
-    let _ = write!(to, "forcing.bin: could not be read");
-    if steps != 0 {
-        let _ = write!(to, " after step {steps}");
-    }
-    why(to, error);
+    let why = Why(error);
+    let _ = match steps {
+        0 => writeln!(to, "forcing.bin: could not be read: {why}"),
+        _ => writeln!(
+            to,
+            "forcing.bin: could not be read after step {steps}: {why}"
+        ),
+    };
 }
 
 // A write that failed: not all of this line and of those after it are printed.
 pub fn unwritten<W: io::Write>(to: &mut W, line: u64, error: io::Error) {
-    let _ = write!(
+    let why = Why(error);
+    let _ = writeln!(
         to,
-        "standard output: could not be written from line {line} on"
+        "standard output: could not be written from line {line} on: {why}"
     );
-    why(to, error);
 }
 
-// What failed, and why.
+// What failed, and why. Bytes, no text, which would ask more of a caller.
 pub fn failed<W: io::Write>(to: &mut W, what: &[u8], error: io::Error) {
+    let why = Why(error);
     let _ = to.write_all(what);
-    why(to, error);
+    let _ = writeln!(to, ": {why}");
 }
 
-// The end of a line: why, in the system's words. std puts the number of the system's error after them.
-fn why<W: io::Write>(to: &mut W, error: io::Error) {
-    let text = InlineText::<128>::of(error);
-    let text = text.as_str();
-    let words = text.split_once(" (os error ").map_or(text, |parts| parts.0);
-    let _ = writeln!(to, ": {words}");
+// Why, in the system's words. std puts the number of the system's error after them.
+#[derive(Drop)]
+struct Why(io::Error);
+
+impl fmt::Display for Why {
+    fn fmt<W: fmt::Write>(&self, f: &mut fmt::Formatter<W>) -> fmt::Result {
+        let text = InlineText::<128>::of(&self.0);
+        let text = text.as_str();
+        f.write_str(text.split_once(" (os error ").map_or(text, |parts| parts.0))
+    }
 }

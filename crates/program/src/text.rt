@@ -42,7 +42,7 @@ impl Output {
         self.text.clear();
     }
 
-    // A word, and after it numbers with a blank before each; the line ends there.
+    // A word, and after it numbers with a blank before each; the line ends there. By hand: no clause says that a write! succeeds.
     pub fn put_words(&mut self, word: &str, numbers: &[u64])
         requires { length self.old + length word.now + 21 * length numbers.now + 1 ≤ ROOM }
         ensures text { self.new ≡ self.old ++ (word.now ++ numbers_text numbers.now) }

@@ -2,7 +2,7 @@
 // files come from the second model, `model program-cases`, and what must be printed too, `model expect program_cases`.
 #![tactic(auto)]
 
-use common::refusal::{Refusal, Refused};
+use common::refusal::Refusal;
 use program::say;
 use std::fmt::InlineText;
 use std::io;
@@ -46,7 +46,8 @@ fn run(rt: HostRuntime, number: u8) -> io::Result<()> {
 // What is said of a file with n sub-basins and m reaches, of every word of it last.
 fn refused_loads<W: io::Write>(to: &mut W, n: u8, m: u8) {
     let bytes = [n, 0, 0, 0, m, 0, 0, 0];
-    let mut say = |why, place| say::refused_load(to, &bytes, Refused { why, place });
+    let mut say =
+        |why: Refusal, place| say::refused_load(to, &bytes, why.number(), place);
     say(Refusal::FewBytes, 0);
     say(Refusal::Counts, 0);
     say(Refusal::Counts, 1);

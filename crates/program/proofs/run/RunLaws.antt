@@ -133,5 +133,5 @@ module _ {first : Basin} {n : ℕ} {input : List ℕ} {kept done : ℕ} {basin :
         printed = λ h. subst (Appends old new) (ap (λ (l : List ℕ). l ++ part_text kept) (r.lines_are ∙ ap (steps_text first 0) all) ∙ ap (λ (k : ℕ). steps_text first 0 (calls_of first.n bytes) ++ part_text k) part) (printed h);
       }
 
-  pub run_failed : n ≡ first.n → {out : List ℕ} {old new : Option (List ℕ)} → RunOf first Failed basin out old new
-  run_failed e = run_end e (record { failed = true; ended_is = refl }) (λ h. absurd (h refl)) (λ h. absurd (h refl))
+  pub run_failed : n ≡ first.n → {ended : Ended} → ended ≡ Failed → {out : List ℕ} {old new : Option (List ℕ)} → RunOf first ended basin out old new
+  run_failed e is = run_end e (record { failed = true; ended_is = is }) (λ h. absurd (h is)) (λ h. absurd (h is))

@@ -14,7 +14,7 @@ use Rattle.basin.specs.declared.step.Report.{Report}
 use Rattle.common.specs.declared.refusal.Refused.{Refused}
 use Rattle.common.specs.Refusals.{number_of}
 use Rattle.common.proofs.Refusals.{number_some}
-use Rattle.std.proofs.Common.{Result, Ok, Err}
+use Rattle.std.proofs.Common.{Result, Ok, Err, subst}
 use borrow.Author.Tests.{ne_eqb}
 use Rattle.basin.specs.Calls.{last_basin}
 use Rattle.basin.specs.Step.{Outcome, as_outcome, step_call}
@@ -112,21 +112,22 @@ module _ {b : Basin} {n done : ℕ} {bytes : List ℕ} {i : ℕ} {left : List �
               ∙ sym (text_append (next ∷ []) b done calls));
         }
 
-  pub take_end : length left < step_bytes n → Stepped b n done bytes basin i out
+  pub take_end : length left < step_bytes n → Stepped b n done bytes basin (length bytes / step_bytes n) out
   unfolding whole_steps calls_of
   take_end h =
       let short : length bytes < i * step_bytes n + step_bytes n =
       omega (arith, ap length t.left_is, length-drop (i * step_bytes n) bytes, t.taken_most) in
       let all : i ≡ length bytes / step_bytes n =
       sym (div-eq_of_lt-le (step_bytes n) t.taken_most (omega (arith, short, suc-mul i (step_bytes n)))) in
-      record {
+      subst (λ (k : ℕ). Stepped b n done bytes basin k out) all
+      (record {
         few = omega (arith, few);
         used_most = t.taken_most;
         rest_short = short;
         steps_is = all;
         after_is = t.basin_is ∙ ap (λ (k : ℕ). last_basin b (calls_in n bytes k)) all;
         lines_are = t.lines_are ∙ ap (λ (k : ℕ). steps_text b done (calls_in n bytes k)) all;
-      }
+      })
     where
       few : i < 65
       few = lt_of_mul-lt-mul_right (step_bytes n) (omega (arith, t.taken_most))

@@ -1,11 +1,7 @@
 -- `program::run::end_run` meets its contract: a part step is printed where some of it has come. Assumes nothing.
 use Rattle.std.proofs.Common.{arith}
 use Rattle.program.specs.Workers.{of_part}
-use Rattle.program.proofs.print.PrintLaws.{nothing_printed}
 use Rattle.program.proofs.run.end_run.Goals as goal
 
-pub print-is_printed-requires-clause-lines : goal.print-is_printed-requires-clause-lines
-print-is_printed-requires-clause-lines g c = of_part c.args.kept (omega (arith, c.if-kept-eq0.false)) c.set_short.ensures
-
-pub returns-then-kept-eq0-clause-printed : goal.returns-then-kept-eq0-clause-printed
-returns-then-kept-eq0-clause-printed g c = λ h. nothing_printed c.if-kept-eq0.true (g.W.Write.contents c.args.streams.now.to.now)
+pub print-printed-requires-clause-lines : goal.print-printed-requires-clause-lines
+print-printed-requires-clause-lines g c = of_part c.args.kept (omega (arith, c.if-kept-eq0.false)) c.set_short.ensures

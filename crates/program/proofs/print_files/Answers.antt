@@ -1,10 +1,10 @@
--- `program::account` meets its contract: what is printed is what document 01 has for the files. Assumes nothing.
+-- `program::print_files` meets its contract: what is printed is what document 01 has for the files. Assumes nothing.
 use Rattle.std.proofs.Common.{rules, [], sym, subst, take, ◌∙◌}
 use Rattle.std.specs.Io.KnownBytes.{Appends}
 use Rattle.std.proofs.KnownBytes.{Appends-nil}
 use Rattle.program.specs.Print.{printed}
 use Rattle.program.proofs.run.PrintedLaws.{printed_all, printed_accepted, run_nothing, loaded_some}
-use Rattle.program.proofs.account.Goals as goal
+use Rattle.program.proofs.print_files.Goals as goal
 
 pub returns-in-Err : goal.returns-in-Err
 returns-in-Err g c =
@@ -19,8 +19,8 @@ returns-in-Err g c =
           search (rules, put);
     }
 
-pub returns-in-Err-open : goal.returns-in-Err-open
-returns-in-Err-open g c =
+pub returns-in_err-file : goal.returns-in_err-file
+returns-in_err-file g c =
     let bytes = take c.unwrap_or-size.result c.read_start-start.new.bytes in
     let load = c.in-Ok.ensures.answers in
     record {
