@@ -98,10 +98,6 @@ module _ {A : Type 0} {x : ℕ → A} {l₀ : List A} {n : ℕ} where
     pub fill_here : (d : A) → get_or l i d ≡ get_or l₀ i d
     fill_here d = ap (λ (k : List A). get_or k i d) s.so_far ∙ filled_past x i l₀ d i (omega arith)
 
--- a table of so many equal entries, to be filled
-pub fill_table : {A : Type 0} {x : ℕ → A} {z b : A} {n : ℕ} (many : ℕ) → b ≡ z → Filling x (replicate many z) n 0 (replicate many b)
-fill_table many e = rw e fill_begin
-
 -- ---- sum
 
 pub sum_same : (f g : ℕ → ℕ) (n : ℕ) → ((k : ℕ) → k < n → f k ≡ g k) → sum_of f n ≡ sum_of g n

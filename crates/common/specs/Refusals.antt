@@ -22,9 +22,9 @@ number_of NoSuchSubBasin = 11
 abbrev pub refusal_text : Refusal → List ℕ
 refusal_text FewBytes = codes "a file of fewer than 8 bytes"
 refusal_text Counts = codes "N or M outside its range"
-refusal_text Length = codes "a file whose length is not that of N and M"
+refusal_text Length = codes "a file whose length does not fit N and M"
 refusal_text Word = codes "a word outside its range"
-refusal_text LineCount = codes "a count of lines that is not N"
+refusal_text LineCount = codes "a count of lines that does not fit N"
 refusal_text RainMissing = codes "rain missing"
 refusal_text BadNumber = codes "not a number, infinite or below zero"
 refusal_text AboveLimit = codes "above its limit"

@@ -61,9 +61,9 @@ impl fmt::Display for Refusal {
         f.write_str(match self {
             Refusal::FewBytes => "a file of fewer than 8 bytes",
             Refusal::Counts => "N or M outside its range",
-            Refusal::Length => "a file whose length is not that of N and M",
+            Refusal::Length => "a file whose length does not fit N and M",
             Refusal::Word => "a word outside its range",
-            Refusal::LineCount => "a count of lines that is not N",
+            Refusal::LineCount => "a count of lines that does not fit N",
             Refusal::RainMissing => "rain missing",
             Refusal::BadNumber => "not a number, infinite or below zero",
             Refusal::AboveLimit => "above its limit",

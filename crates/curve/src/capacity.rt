@@ -111,27 +111,27 @@ impl Inside {
     }
 
     // The last ordinate with the least share or more above it.
-    #[tactic(auto, using(crate::proofs::capacity::ShareLaws::ordinate_by_share), unfolding(crate::specs::Capacity::last_above))]
+    #[tactic(auto, using(crate::proofs::capacity::ShareLaws::ordinate_by_share, crate::proofs::capacity::ShareLaws::least_share_le), unfolding(crate::specs::Capacity::last_above))]
     fn ordinate<R: FindRoot>(self, roots: &R, w: u64) -> u64
         requires { w ≤ self.curve.c }
         ensures { result ≡ ordinate self.curve.c self.curve.m self.curve.e w }
     {
         let m = self.curve.m;
         let t = self.least_share(roots, w);
-        m - (t.parts * m).div_ceil(ONE)
+        m - (t * m).div_ceil(ONE)
     }
 
     // The interval from lo to hi is narrowed: with the share hi at most w is held, with lo more. The first trial is a guess. From it the
     // trials go 1 share on, 1 again, 2, 4 and so on, and where that leaves the interval to its middle. Any share between lo and hi would do.
     // The share is yielded by break, as document 01 has it.
     #[tactic(auto, using(crate::proofs::capacity::ShareLaws::search_laws))]
-    fn least_share<R: FindRoot>(self, roots: &R, w: u64) -> Share
+    fn least_share<R: FindRoot>(self, roots: &R, w: u64) -> u64
         requires { w ≤ self.curve.c }
         ensures { result ≡ least_share self.curve.c self.curve.e w }
     {
         let c = self.curve.c;
         if w == c {
-            return Share { parts: 0 };
+            return 0;
         }
         // with a lesser power more than w is held
         let power = ((c - w) * ONE).div_ceil(c);
@@ -144,7 +144,7 @@ impl Inside {
             step = (step * 2).min(ONE);
             if self.held_at(roots, Share { parts: at }) <= w {
                 if at - lo <= 1 {
-                    break Share { parts: at };
+                    break at;
                 }
                 hi = at;
                 at = if far < hi - lo {
@@ -154,7 +154,7 @@ impl Inside {
                 };
             } else {
                 if hi - at <= 1 {
-                    break Share { parts: hi };
+                    break hi;
                 }
                 lo = at;
                 at = if far < hi - lo {

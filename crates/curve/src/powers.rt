@@ -11,22 +11,22 @@ pub fn power_of<R: FindRoot>(roots: &R, t: Share, e: u64) -> Share
     ensures { result ≡ power t e }
 {
     let x = whole_of(t, e / 16);
-    if e % 16 == 0 {
+    if e.is_multiple_of(16) {
         return x;
     }
     let r1 = roots.root_of(t);
     let x1 = part_of(e, 8, r1, x);
-    if e % 8 == 0 {
+    if e.is_multiple_of(8) {
         return x1;
     }
     let r2 = roots.root_of(r1);
     let x2 = part_of(e, 4, r2, x1);
-    if e % 4 == 0 {
+    if e.is_multiple_of(4) {
         return x2;
     }
     let r3 = roots.root_of(r2);
     let x3 = part_of(e, 2, r3, x2);
-    if e % 2 == 0 {
+    if e.is_multiple_of(2) {
         return x3;
     }
     part_of(e, 1, roots.root_of(r3), x3)

@@ -44,7 +44,7 @@ impl Share {
         Share { parts: ONE }
     }
 
-    // It times another, over 65,536.
+    // It times another, over 65,536. No `*`: it rounds down.
     pub fn by(self, r: Share) -> Share
         ensures { result ≡ by self r }
     {

@@ -1,8 +1,7 @@
 -- Held and Ordinate: Held goes up from 0 to c, and Ordinate is the greatest point that holds at most w. Assumes nothing.
 use mathlib.Core.Path.{◌≡◌, refl, ap, ◌∙◌}
 use Prim.Native.Nat.{ℕ, ◌+◌, ◌-◌, ◌*◌, ◌/◌, ◌≤◌, ◌<◌, min}
-use native.Mathlib.Nat.{le_trans, mul-le-mul_left, min-eq_left, min-eq_right}
-use native.Mathlib.Nat.{mul-div_right, zero-div, div-mul-le_self, le-div_iff_mul-le}
+use native.Mathlib.Nat.{le_trans, mul-le-mul_left, min-eq_left, min-eq_right, mul-div_right, zero-div, div-mul-le_self, le-div_iff_mul-le}
 use native.Mathlib.Decide.{dec_le}
 use native.Mathlib.Omega.{arith}
 use lib.Dec.{leb}

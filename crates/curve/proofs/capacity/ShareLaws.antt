@@ -11,7 +11,7 @@ use Rattle.curve.specs.Capacity.{least_e, share_above, held_at, ordinate, least_
 use Rattle.curve.proofs.capacity.HeldLaws.{held_at_mono, held_at_zero, held_at_one, held_is, ordinate_is}
 
 module _ (c e w : ℕ) where
-  least_share_le : least_share c e w ≤ one
+  pub least_share_le : least_share c e w ≤ one
   unfolding least_share
   least_share_le = smallest_le (λ t. leb (held_at c e t) w) one
 
