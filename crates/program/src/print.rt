@@ -52,6 +52,7 @@ fn lines_in(bytes: &[u8]) -> u64
 
 impl Output {
     // Holds the line of a refused load, and nothing besides.
+    #[tactic(auto, using(crate::proofs::print::PrintLaws::load_put))]
     pub fn set_load(&mut self, refused: Refused)
         ensures { self.new ≡ load_text (number_of refused.why) refused.place }
     {
@@ -60,6 +61,7 @@ impl Output {
     }
 
     // Holds the line of a part step of so many bytes, and nothing besides.
+    #[tactic(auto, using(crate::proofs::print::PrintLaws::short_put))]
     pub fn set_short(&mut self, count: u64)
         ensures { self.new ≡ short_text count }
     {
@@ -68,6 +70,7 @@ impl Output {
     }
 
     // Puts the line of step `step`, which came out like this.
+    #[tactic(auto, using(crate::proofs::print::PrintLaws::accepted_put, crate::proofs::print::PrintLaws::refused_put))]
     pub fn put_step(&mut self, step: u64, outcome: &Result<Report, Refused>)
         requires { length self.old + 129 ≤ ROOM }
         ensures text { self.new ≡ self.old ++ outcome_text step outcome.now }

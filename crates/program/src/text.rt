@@ -43,6 +43,7 @@ impl Output {
     }
 
     // A word, and after it numbers with a blank before each; the line ends there. By hand: no clause says that a write! succeeds.
+    #[tactic(auto, using(crate::proofs::text::TextLaws::numbers_turn, crate::proofs::text::TextLaws::numbers_end))]
     pub fn put_words(&mut self, word: &str, numbers: &[u64])
         requires { length self.old + length word.now + 21 * length numbers.now + 1 ≤ ROOM }
         ensures text { self.new ≡ self.old ++ (word.now ++ numbers_text numbers.now) }
@@ -56,6 +57,7 @@ impl Output {
         self.put("\n");
     }
 
+    #[tactic(auto, using(crate::proofs::text::TextLaws::written_is))]
     pub fn put_number(&mut self, n: u64)
         requires { length self.old + 20 ≤ ROOM }
         ensures text { self.new ≡ self.old ++ decimal n }

@@ -53,13 +53,9 @@ module _ {b : Basin} {n done : ℕ} {bytes : List ℕ} {i : ℕ} {left : List �
     (t : Taking b n done bytes i left basin out)
     (some : 1 ≤ n) (most : length bytes ≤ 64 * step_bytes n) where
   module _ (words left' : List ℕ) (next : left ≡ words ++ left') (size : length words ≡ step_bytes n) where
-    -- where another step is there, fewer than 64 were taken
     one_more : i * step_bytes n + step_bytes n ≤ length bytes
     one_more =
         omega (arith, ap length next, length-append words left', ap length t.left_is, length-drop (i * step_bytes n) bytes, t.taken_most)
-
-    pub take_few : i < 64
-    take_few = lt_of_mul-lt-mul_right (step_bytes n) (omega (arith, one_more))
 
     words_are : words ≡ take (step_bytes n) (drop (i * step_bytes n) bytes)
     words_are = sym (take-append_seam words left') ∙ ap (λ (k : ℕ). take k (words ++ left')) size ∙ ap (take (step_bytes n)) (sym next ∙ t.left_is)

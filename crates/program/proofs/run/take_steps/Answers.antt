@@ -1,7 +1,7 @@
 use Rattle.std.proofs.Common.{arith, ap, ◌∙◌, ◌≡◌, ◌+◌}
 use Rattle.std.specs.Iterator.Adapters.{enumerate_source, enumerate_count}
 use Rattle.std.specs.Slice.Iter.{chunks_exact_rest, chunks_exact_size}
-use Rattle.program.proofs.run.TakeLaws.{take_begin, take_few, take_turn, take_end}
+use Rattle.program.proofs.run.TakeLaws.{take_begin, take_turn, take_end}
 use Rattle.program.proofs.run.take_steps.Goals as goal
 
 pub loop-k-init : goal.loop-k-init
@@ -13,13 +13,6 @@ loop-k-init c =
       size_is = ap chunks_exact_size from ∙ c.chunks_exact.ensures.size;
       taking = take_begin _ _ _ (ap chunks_exact_rest from ∙ c.chunks_exact.ensures.rest);
     })
-
-pub put_step-requires : goal.put_step-requires
-put_step-requires c =
-    let at = c.loop-k.invariant in
-    let next = c.in-Some.ensures.steps.0.1 in
-    let few = take_few at.taking c.requires.0 c.requires.2 _ _ next.0 (next.1 ∙ at.size_is) in
-    omega (arith, at.taking.out_most, few)
 
 pub loop-k-preserved : goal.loop-k-preserved
 loop-k-preserved c =

@@ -1,2 +1,0 @@
--- Reading and writing: what a writer holds.
-mod KnownLaws
