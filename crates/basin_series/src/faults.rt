@@ -1,9 +1,9 @@
 // Steps that go astray: a count that isn't N, bad lines, and a basin that is outside its limits.
 use basin::state::Basin;
 use basin_testing::places;
-use basin_testing::weather::{FAULTS, Fault, bad};
+use basin_testing::weather::Fault;
 use forcing::list::Line;
-use testing::chance::Chance;
+use testing::chance::{self, Chance};
 
 // What a step takes.
 #[derive(Clone, Copy)]
@@ -22,18 +22,23 @@ pub fn astray(b: &Basin, lines: &[Line; 32], chance: &mut Chance) -> Call {
         lines: *lines,
         count: b.n,
     };
-    if k < 5 {
-        call.count = wrong_counts(b.n)[k as usize];
-    } else if k < 14 {
-        spoil(&mut call.lines, b.n, FAULTS[k as usize - 5], x, y);
-    } else {
-        places::damage(&mut call.basin, x, y);
-        if k == 14 {
-            call.count = wrong_counts(b.n)[(y % 5) as usize];
+    match k {
+        0..=4 => call.count = chance::one_of(wrong_counts(b.n), k),
+        5..=13 => spoil(
+            &mut call.lines,
+            b.n,
+            chance::one_of(Fault::ALL, k - 5),
+            [x, y],
+        ),
+        14 => {
+            places::damage(&mut call.basin, [x, y]);
+            call.count = chance::one_of(wrong_counts(b.n), y);
         }
-        if k == 15 {
-            spoil(&mut call.lines, b.n, FAULTS[0], x, y);
+        15 => {
+            places::damage(&mut call.basin, [x, y]);
+            spoil(&mut call.lines, b.n, Fault::ALL[0], [x, y]);
         }
+        _ => places::damage(&mut call.basin, [x, y]),
     }
     call
 }
@@ -43,11 +48,11 @@ fn wrong_counts(n: u64) -> [u64; 5] {
 }
 
 // Two bad lines among the first n and the one after them.
-fn spoil(lines: &mut [Line; 32], n: u64, fault: Fault, x: u64, y: u64) {
+fn spoil(lines: &mut [Line; 32], n: u64, fault: Fault, [x, y]: [u64; 2]) {
     let ends = n % 33 + 1;
     let first = (x % ends % 32) as usize;
     let second = (y % ends % 32) as usize;
     let line = lines[first];
-    lines[first] = bad(line, fault);
-    lines[second] = bad(line, FAULTS[(y / 64 % 9) as usize]);
+    lines[first] = fault.put(line);
+    lines[second] = chance::one_of(Fault::ALL, y / 64).put(line);
 }

@@ -21,7 +21,7 @@ fn main(rt: HostRuntime) -> io::Result<()> {
 }
 
 fn case_a(rt: &impl Print) -> io::Result<()> {
-    let mut b = calls::started(Plan::chain(Choice::CaseA, 1, 0), &mut Chance::new());
+    let mut b = calls::case_a();
     for (i, line) in CASE_A.into_iter().enumerate() {
         let given = b.step([line; 32], 1);
         series::print(rt, i as u64 + 1, &given)?;

@@ -14,8 +14,13 @@ pub fn rows(rt: &impl Print) -> io::Result<()> {
     for (i, (n, m)) in SIZES.into_iter().enumerate() {
         for (j, choice) in Choice::DRAWN.into_iter().enumerate() {
             for shape in Shape::OWN {
-                let full = i == j && shape == Shape::Chain;
-                row(rt, Plan::new(choice, shape, n, m), &mut chance, full)?;
+                let plan = Plan::new(choice, shape, n, m);
+                let mut b = calls::started(plan, &mut chance);
+                let sum = series::run(rt, &mut b, &mut chance, 320)?;
+                if i == j && shape == Shape::Chain {
+                    places::print(rt, &b)?;
+                }
+                println!(rt; "{plan} {sum}")?;
             }
         }
     }
@@ -25,16 +30,6 @@ pub fn rows(rt: &impl Print) -> io::Result<()> {
         }
     }
     Ok(())
-}
-
-// `full` says whether the last basin is printed besides.
-fn row(rt: &impl Print, plan: Plan, chance: &mut Chance, full: bool) -> io::Result<()> {
-    let mut b = calls::started(plan, chance);
-    let sum = series::run(rt, &mut b, chance, 320)?;
-    if full {
-        places::print(rt, &b)?;
-    }
-    println!(rt; "{plan} {sum}")
 }
 
 // Where not all flows at once, the first step leaves stores above their limits, and the others are refused.

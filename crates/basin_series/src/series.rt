@@ -1,7 +1,7 @@
 // A series of steps, each on the basin that the one before handed back, folded into a checksum.
 use crate::faults;
 use basin::state::Basin;
-use basin::step::Report;
+use basin::step::{Report, ZEROS};
 use basin_testing::checksum::add_basin;
 use basin_testing::{calls, weather};
 use common::refusal::Refused;
@@ -9,6 +9,7 @@ use std::io;
 use testing::chance::Chance;
 use testing::checksum::Checksum;
 use testing::lines::Row;
+use testing::refusals;
 
 // Every 16th step is astray, and the series then goes on from the basin before; every 72nd is printed.
 pub fn run(
@@ -17,7 +18,7 @@ pub fn run(
     chance: &mut Chance,
     count: u64,
 ) -> io::Result<Checksum> {
-    let mut sum = Checksum::new();
+    let mut sum = Checksum::default();
     for i in 0..count {
         let lines = weather::drawn(i, chance);
         if i % 16 == 7 {
@@ -25,8 +26,7 @@ pub fn run(
             let given = call.basin.step(call.lines, call.count);
             add(&mut sum, &given, &call.basin);
         } else {
-            let n = b.n;
-            let given = b.step(lines, n);
+            let given = b.step(lines, b.n);
             if i % 72 == 0 {
                 print(rt, i, &given)?;
             }
@@ -38,7 +38,8 @@ pub fn run(
 
 // Every number of an answer: number and place, the report, the basin.
 pub fn add(sum: &mut Checksum, given: &Result<Report, Refused>, after: &Basin) {
-    sum.add_row(&calls::of_step(given));
+    sum.add_row(&refusals::told(given));
+    sum.add_row(&calls::of_report(&given.unwrap_or(ZEROS)));
     add_basin(sum, after);
 }
 

@@ -15,7 +15,7 @@ pub fn add_basin(sum: &mut Checksum, b: &Basin) {
 
 // Of one basin alone.
 pub fn of_basin(b: &Basin) -> Checksum {
-    let mut sum = Checksum::new();
+    let mut sum = Checksum::default();
     add_basin(&mut sum, b);
     sum
 }

@@ -2,36 +2,22 @@
 use basin::reach::Reach;
 use basin::state::Basin;
 use std::{fmt, io};
-use subbasin::record;
-use subbasin::record::MOST_SLOW;
+use subbasin::record::{self, MOST_SLOW};
+use testing::chance;
 use testing::lines::Row;
 use testing::ranges::{Edge, Range};
-use testing::rows;
-use testing::rows::Numbers;
+use testing::rows::{self, Numbers};
 use testing::spots::Spot;
 
-// The first place of the reaches.
-const REACHES: usize = 2 + 32 * rows::PLACES;
+const REACH_PLACES: usize = 4;
 
-pub const PLACES: usize = REACHES + 31 * 4;
+pub const PLACES: usize = 2 + 32 * rows::PLACES + 31 * REACH_PLACES;
 
 pub fn spot_of(place: usize) -> Spot {
-    if place < 2 {
-        Spot::Count { place }
-    } else if place < REACHES {
-        Spot::Sub {
-            index: (place - 2) / rows::PLACES,
-            place: (place - 2) % rows::PLACES,
-        }
-    } else {
-        Spot::Reach {
-            index: (place - REACHES) / 4,
-            place: (place - REACHES) % 4,
-        }
-    }
+    Spot::of(place, 32, rows::PLACES, REACH_PLACES)
 }
 
-pub fn numbers_of(r: &Reach) -> [u64; 4] {
+pub fn numbers_of(r: &Reach) -> [u64; REACH_PLACES] {
     [r.c0, r.c1, r.next, r.content]
 }
 
@@ -50,8 +36,8 @@ pub fn print(rt: &impl Print, b: &Basin) -> io::Result<()> {
 // Puts v at a place.
 pub fn put(b: &mut Basin, place: usize, v: u64) {
     match spot_of(place) {
-        Spot::Count { place: 0 } => b.n = v,
-        Spot::Count { .. } => b.m = v,
+        Spot::N => b.n = v,
+        Spot::M => b.m = v,
         Spot::Sub { index, place } => rows::put(&mut b.subs[index % 32], place, v),
         Spot::Reach { index, place } => put_in_reach(&mut b.reaches[index % 31], place, v),
     }
@@ -73,8 +59,8 @@ pub fn put_edge(b: &mut Basin, place: usize, edge: Edge) {
 }
 
 // Puts one number below or above its range, or at the greatest, by two draws.
-pub fn damage(b: &mut Basin, x: u64, y: u64) {
-    put_edge(b, x as usize % PLACES, Edge::OUTSIDE[(y % 3) as usize]);
+pub fn damage(b: &mut Basin, [x, y]: [u64; 2]) {
+    put_edge(b, x as usize % PLACES, chance::one_of(Edge::OUTSIDE, y));
 }
 
 // How a basin whose amounts are at their limits lets them go: all at once, by CI, CG and CS of 0, or as slowly as it may.
@@ -122,7 +108,8 @@ impl fmt::Display for Brim {
 // Document 01, refusal 9. What is unused is 0.
 fn range_of(b: &Basin, place: usize) -> Range {
     match spot_of(place) {
-        Spot::Count { place } => Range::of_count(place),
+        Spot::N => Range::of_n(),
+        Spot::M => Range::of_m(),
         Spot::Sub { index, place } if (index as u64) < b.n => {
             Range::of_number(&b.subs[index % 32], place, b.m, MOST_SLOW)
         }

@@ -1,11 +1,12 @@
 // Lines, drawn, and bad ones.
 use forcing::list::{BLANK, Line, Reading};
+use std::array;
 use testing::chance::Chance;
 use testing::climate::Climate;
 
 // In the weather of step i's spell, by two draws. One reading of eight is estimated.
-pub fn line(i: u64, x: u64, y: u64) -> Line {
-    let weather = Climate::Spells.weather(i, x, y);
+pub fn line(i: u64, [x, y]: [u64; 2]) -> Line {
+    let weather = Climate::Spells.weather(i, [x, y]);
     let depth = millimetres(weather.rain);
     let rain = match y % 8 {
         0 => Reading::Estimated(depth),
@@ -24,12 +25,7 @@ fn millimetres(depth: u64) -> f32 {
 
 // Lines of step i.
 pub fn drawn<const N: usize>(i: u64, chance: &mut Chance) -> [Line; N] {
-    let mut lines = [BLANK; N];
-    for here in &mut lines {
-        let [x, y] = chance.draws::<2>();
-        *here = line(i, x, y);
-    }
-    lines
+    array::from_fn(|_| line(i, chance.draws()))
 }
 
 // The three steps of case A, one line each.
@@ -52,22 +48,24 @@ pub enum Fault {
     Pan(f32),
 }
 
-pub const FAULTS: [Fault; 9] = [
-    Fault::Rain(Reading::Missing),
-    Fault::Rain(Reading::Measured(f32::NAN)),
-    Fault::Rain(Reading::Estimated(f32::INFINITY)),
-    Fault::Rain(Reading::Measured(-0.5)),
-    Fault::Rain(Reading::Estimated(1000.0625)),
-    Fault::Pan(f32::NAN),
-    Fault::Pan(f32::NEG_INFINITY),
-    Fault::Pan(-0.25),
-    Fault::Pan(100.0625),
-];
+impl Fault {
+    pub const ALL: [Fault; 9] = [
+        Fault::Rain(Reading::Missing),
+        Fault::Rain(Reading::Measured(f32::NAN)),
+        Fault::Rain(Reading::Estimated(f32::INFINITY)),
+        Fault::Rain(Reading::Measured(-0.5)),
+        Fault::Rain(Reading::Estimated(1000.0625)),
+        Fault::Pan(f32::NAN),
+        Fault::Pan(f32::NEG_INFINITY),
+        Fault::Pan(-0.25),
+        Fault::Pan(100.0625),
+    ];
 
-// The line with the fault.
-pub fn bad(line: Line, fault: Fault) -> Line {
-    match fault {
-        Fault::Rain(rain) => Line { rain, ..line },
-        Fault::Pan(pan) => Line { pan, ..line },
+    // The line with the fault.
+    pub fn put(self, line: Line) -> Line {
+        match self {
+            Fault::Rain(rain) => Line { rain, ..line },
+            Fault::Pan(pan) => Line { pan, ..line },
+        }
     }
 }

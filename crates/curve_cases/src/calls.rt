@@ -1,9 +1,6 @@
-// The public calls of `curve`, each on a row of four numbers: a root takes the first, a Power the first two, the others all.
-ghost use Rattle.std.specs.Prelude.{◌≤◌};
-
+// The public calls of `curve`, with their arguments.
 use common::refusal::Refusal;
-use curve::capacity;
-use curve::capacity::{Curve, Newton, Printed};
+use curve::capacity::{self, Curve, Newton, Printed};
 use curve::store::{Store, Taken};
 use std::{fmt, io};
 use testing::checksum::Checksum;
@@ -12,77 +9,72 @@ use testing::refusals;
 
 #[derive(Clone, Copy)]
 pub enum Call {
-    Root,
-    RootByTable,
-    Power,
-    PowerByTable,
-    Held,
-    Ordinate,
-    Store,
-}
-
-impl fmt::Display for Call {
-    fn fmt<W: fmt::Write>(&self, f: &mut fmt::Formatter<W>) -> fmt::Result {
-        f.write_str(match self {
-            Call::Root => "root",
-            Call::RootByTable => "root_by_table",
-            Call::Power => "power",
-            Call::PowerByTable => "power_by_table",
-            Call::Held => "held",
-            Call::Ordinate => "ordinate",
-            Call::Store => "store",
-        })
-    }
+    // t.
+    Root(u64),
+    RootByTable(u64),
+    // t and e.
+    Power(u64, u64),
+    PowerByTable(u64, u64),
+    // And a, and w.
+    Held(Curve, u64),
+    Ordinate(Curve, u64),
+    // And the inflow.
+    Store(Store, u64),
 }
 
 impl Call {
-    // How many arguments it takes.
-    pub fn arity(self) -> usize
-        ensures { result ≤ 4 }
-    {
+    pub fn name(&self) -> &'static str {
         match self {
-            Call::Root | Call::RootByTable => 1,
-            Call::Power | Call::PowerByTable => 2,
-            Call::Held | Call::Ordinate | Call::Store => 4,
+            Call::Root(_) => "root",
+            Call::RootByTable(_) => "root_by_table",
+            Call::Power(_, _) => "power",
+            Call::PowerByTable(_, _) => "power_by_table",
+            Call::Held(_, _) => "held",
+            Call::Ordinate(_, _) => "ordinate",
+            Call::Store(_, _) => "store",
         }
     }
 
     // A call's line: its name, its arguments, then every number of the answer.
-    pub fn print(self, rt: &impl Print, v: [u64; 4]) -> io::Result<()> {
-        let answer = self.answer(v);
-        let arguments = Row(&v[..self.arity()]);
-        println!(rt; "{self}{arguments}{}", Row(answer.as_slice()))
+    pub fn print(&self, rt: &impl Print) -> io::Result<()> {
+        println!(rt; "{self}{}", Row(self.answer().as_slice()))
     }
 
     // Every number of the answer.
-    pub fn add(self, sum: &mut Checksum, v: [u64; 4]) {
-        sum.add_row(self.answer(v).as_slice());
+    pub fn add(&self, sum: &mut Checksum) {
+        sum.add_row(self.answer().as_slice());
     }
 
-    fn answer(self, v: [u64; 4]) -> Numbers {
-        let [first, second, third, last] = v;
-        match self {
-            Call::Root => Numbers::from(capacity::root(&Newton, first)),
-            Call::RootByTable => Numbers::from(capacity::root(&Printed, first)),
-            Call::Power => Numbers::from(capacity::power(&Newton, first, second)),
-            Call::PowerByTable => Numbers::from(capacity::power(&Printed, first, second)),
-            Call::Held => Numbers::from(curve(v).held(&capacity::printed_roots(), last)),
-            Call::Ordinate => Numbers::from(curve(v).ordinate(&capacity::printed_roots(), last)),
-            Call::Store => {
-                let before = Store {
-                    a: first,
-                    g: second,
-                    content: third,
-                };
-                Numbers::from(before.take(last))
+    fn answer(&self) -> Numbers {
+        match *self {
+            Call::Root(t) => Numbers::from(capacity::root(&Newton, t)),
+            Call::RootByTable(t) => Numbers::from(capacity::root(&Printed, t)),
+            Call::Power(t, e) => Numbers::from(capacity::power(&Newton, t, e)),
+            Call::PowerByTable(t, e) => Numbers::from(capacity::power(&Printed, t, e)),
+            Call::Held(curve, a) => Numbers::from(curve.held(&capacity::printed_roots(), a)),
+            Call::Ordinate(curve, w) => {
+                Numbers::from(curve.ordinate(&capacity::printed_roots(), w))
             }
+            Call::Store(store, inflow) => Numbers::from(store.take(inflow)),
         }
     }
 }
 
-// The curve of the first three.
-pub fn curve([c, m, e, _]: [u64; 4]) -> Curve {
-    Curve { c, m, e }
+// Its name and its arguments.
+impl fmt::Display for Call {
+    fn fmt<W: fmt::Write>(&self, f: &mut fmt::Formatter<W>) -> fmt::Result {
+        f.write_str(self.name())?;
+        match *self {
+            Call::Root(t) | Call::RootByTable(t) => write!(f, " {t}"),
+            Call::Power(t, e) | Call::PowerByTable(t, e) => write!(f, " {t} {e}"),
+            Call::Held(Curve { c, m, e }, last) | Call::Ordinate(Curve { c, m, e }, last) => {
+                write!(f, " {c} {m} {e} {last}")
+            }
+            Call::Store(Store { a, g, content }, inflow) => {
+                write!(f, " {a} {g} {content} {inflow}")
+            }
+        }
+    }
 }
 
 // An answer's numbers: number, place and value, or number, place, the store after and the outflow.
@@ -103,15 +95,14 @@ impl Numbers {
 
 impl From<Result<u64, Refusal>> for Numbers {
     fn from(given: Result<u64, Refusal>) -> Numbers {
-        let [number, place] = refusals::told(&given);
-        Numbers::Value([number, place, given.unwrap_or(0)])
+        Numbers::Value(refusals::with_value(given))
     }
 }
 
 impl From<Taken> for Numbers {
     fn from(given: Taken) -> Numbers {
         let Store { a, g, content } = given.store;
-        let [number, place] = refusals::told(&given.outflow);
-        Numbers::Store([number, place, a, g, content, given.outflow.unwrap_or(0)])
+        let [number, place, outflow] = refusals::with_value(given.outflow);
+        Numbers::Store([number, place, a, g, content, outflow])
     }
 }

@@ -4,46 +4,43 @@ use crate::calls::Call;
 use std::io;
 use testing::checksum::Checksum;
 
-const EVERY: [(Call, u64); 14] = [
-    (Call::Root, 0),
-    (Call::RootByTable, 0),
-    (Call::Power, 15),
-    (Call::Power, 16),
-    (Call::Power, 17),
-    (Call::Power, 24),
-    (Call::Power, 31),
-    (Call::PowerByTable, 31),
-    (Call::Power, 32),
-    (Call::Power, 33),
-    (Call::Power, 40),
-    (Call::Power, 47),
-    (Call::Power, 48),
-    (Call::Power, 49),
-];
-
 pub fn shares(rt: &impl Print) -> io::Result<()> {
-    for (call, e) in EVERY {
-        let mut sum = Checksum::new();
-        for t in 0..65538 {
-            call.add(&mut sum, [t, e, 0, 0]);
-        }
-        println!(rt; "every {call} {e} {sum}")?;
+    every(rt, 0, |t| Call::Root(t))?;
+    every(rt, 0, |t| Call::RootByTable(t))?;
+    for e in [15, 16, 17, 24, 31] {
+        every(rt, e, |t| Call::Power(t, e))?;
+    }
+    every(rt, 31, |t| Call::PowerByTable(t, 31))?;
+    for e in [32, 33, 40, 47, 48, 49] {
+        every(rt, e, |t| Call::Power(t, e))?;
     }
     Ok(())
+}
+
+fn every<F: Fn(u64) -> Call>(rt: &impl Print, e: u64, call: F) -> io::Result<()>
+    requires { F.IsAlwaysCallable call }
+{
+    let mut sum = Checksum::default();
+    for t in 0..65538 {
+        call(t).add(&mut sum);
+    }
+    println!(rt; "every {} {e} {sum}", call(0).name())
 }
 
 pub fn exponents(rt: &impl Print) -> io::Result<()> {
     for e in 15..50 {
-        spread(rt, Call::Power, e)?;
-        spread(rt, Call::PowerByTable, e)?;
+        spread(rt, e, |t| Call::Power(t, e))?;
+        spread(rt, e, |t| Call::PowerByTable(t, e))?;
     }
     Ok(())
 }
 
-fn spread(rt: &impl Print, call: Call, e: u64) -> io::Result<()> {
-    let mut sum = Checksum::new();
+fn spread<F: Fn(u64) -> Call>(rt: &impl Print, e: u64, call: F) -> io::Result<()>
+    requires { F.IsAlwaysCallable call }
+{
+    let mut sum = Checksum::default();
     for t in (0..=65536).rev().step_by(127) {
-        call.add(&mut sum, [t, e, 0, 0]);
+        call(t).add(&mut sum);
     }
-    println!(rt; "spread {call} {e} {sum}")
+    println!(rt; "spread {} {e} {sum}", call(0).name())
 }

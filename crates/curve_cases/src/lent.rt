@@ -1,10 +1,9 @@
 // Root, Held and Ordinate with tables of roots that mislead: they answer as they do by the printed one. For each table a checksum of every
 // root and one of a random series.
-use crate::calls::{Call, Numbers};
-use crate::{calls, random};
+use crate::calls::Numbers;
+use crate::random;
 use common::refusal::Refusal;
-use curve::capacity;
-use curve::capacity::Roots;
+use curve::capacity::{self, Roots};
 use std::io;
 use testing::chance::Chance;
 use testing::checksum::Checksum;
@@ -25,7 +24,7 @@ fn line(rt: &impl Print, name: &str, roots: &Roots) -> io::Result<()> {
 }
 
 fn every_root(roots: &Roots) -> Checksum {
-    let mut sum = Checksum::new();
+    let mut sum = Checksum::default();
     for t in 0..65538 {
         add(&mut sum, capacity::root(roots, t));
     }
@@ -35,13 +34,13 @@ fn every_root(roots: &Roots) -> Checksum {
 // A Held and an Ordinate of the same draws.
 fn drawn(roots: &Roots) -> Checksum {
     let mut chance = Chance::new();
-    let mut sum = Checksum::new();
+    let mut sum = Checksum::default();
     for _ in 0..10000 {
         let mut same = chance;
-        let v = random::arguments(Call::Held, &mut same);
-        add(&mut sum, calls::curve(v).held(roots, v[3]));
-        let v = random::arguments(Call::Ordinate, &mut chance);
-        add(&mut sum, calls::curve(v).ordinate(roots, v[3]));
+        let (curve, a) = random::held(&mut same);
+        add(&mut sum, curve.held(roots, a));
+        let (curve, w) = random::ordinate(&mut chance);
+        add(&mut sum, curve.ordinate(roots, w));
     }
     sum
 }

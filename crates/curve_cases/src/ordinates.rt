@@ -1,6 +1,7 @@
 // The ordinate of every w and of one beyond, a checksum for each curve: with c and m up to 12; with every power that can be wanted, of every
 // exponent; with the greatest c and the least m, the least c and the greatest m; and beside 65,536.
 use crate::calls::Call;
+use curve::capacity::Curve;
 use std::io;
 use testing::checksum::Checksum;
 
@@ -18,34 +19,35 @@ pub fn print(rt: &impl Print) -> io::Result<()> {
         println!(rt; "small {e} {}", small(e))?;
     }
     for e in 16..49 {
-        line(rt, 65536, 2000000, e)?;
+        let (c, m) = (65536, 2000000);
+        line(rt, Curve { c, m, e })?;
     }
     for (c, m) in ENDS {
         for e in [16, 31, 48] {
-            line(rt, c, m, e)?;
+            line(rt, Curve { c, m, e })?;
         }
     }
     Ok(())
 }
 
-fn line(rt: &impl Print, c: u64, m: u64, e: u64) -> io::Result<()> {
-    let mut sum = Checksum::new();
-    add_curve(&mut sum, c, m, e);
-    println!(rt; "curve {c} {m} {e} {sum}")
+fn line(rt: &impl Print, curve: Curve) -> io::Result<()> {
+    let mut sum = Checksum::default();
+    add_curve(&mut sum, curve);
+    println!(rt; "curve {} {} {} {sum}", curve.c, curve.m, curve.e)
 }
 
 fn small(e: u64) -> Checksum {
-    let mut sum = Checksum::new();
+    let mut sum = Checksum::default();
     for c in 1..13 {
         for m in 1..13 {
-            add_curve(&mut sum, c, m, e);
+            add_curve(&mut sum, Curve { c, m, e });
         }
     }
     sum
 }
 
-fn add_curve(sum: &mut Checksum, c: u64, m: u64, e: u64) {
-    for w in 0..c.saturating_add(2) {
-        Call::Ordinate.add(sum, [c, m, e, w]);
+fn add_curve(sum: &mut Checksum, curve: Curve) {
+    for w in 0..curve.c.saturating_add(2) {
+        Call::Ordinate(curve, w).add(sum);
     }
 }

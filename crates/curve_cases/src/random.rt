@@ -2,68 +2,78 @@
 ghost use Rattle.std.specs.Prelude.{◌≤◌};
 
 use crate::calls::Call;
+use curve::capacity::Curve;
+use curve::store::Store;
 use std::io;
 use testing::chance::Chance;
 use testing::checksum::Checksum;
 use testing::choices::up_to;
 
-const SERIES: [Call; 5] = [
-    Call::Root,
-    Call::Power,
-    Call::Held,
-    Call::Ordinate,
-    Call::Store,
-];
-
 pub fn print(rt: &impl Print) -> io::Result<()> {
-    for call in SERIES {
-        series(rt, call)?;
-    }
-    Ok(())
+    series(rt, |chance| Call::Root(chance.next() % 66000))?;
+    series(rt, |chance| {
+        let [t, e] = chance.draws::<2>();
+        Call::Power(t % 66000, 15 + e % 35)
+    })?;
+    series(rt, |chance| {
+        let (curve, a) = held(chance);
+        Call::Held(curve, a)
+    })?;
+    series(rt, |chance| {
+        let (curve, w) = ordinate(chance);
+        Call::Ordinate(curve, w)
+    })?;
+    series(rt, |chance| {
+        let (store, inflow) = store(chance);
+        Call::Store(store, inflow)
+    })
 }
 
-fn series(rt: &impl Print, call: Call) -> io::Result<()> {
+fn series<F: Fn(&mut Chance) -> Call>(rt: &impl Print, draw: F) -> io::Result<()>
+    requires { F.IsAlwaysCallable draw }
+{
     let mut chance = Chance::new();
-    let mut sum = Checksum::new();
+    let mut sum = Checksum::default();
     for i in 0..100000 {
-        let v = arguments(call, &mut chance);
+        let call = draw(&mut chance);
         if i % 2500 == 0 {
-            call.print(rt, v)?;
+            call.print(rt)?;
         }
-        call.add(&mut sum, v);
+        call.add(&mut sum);
     }
-    println!(rt; "series {call} {sum}")
+    println!(rt; "series {} {sum}", draw(&mut chance).name())
 }
 
-pub fn arguments(call: Call, chance: &mut Chance) -> [u64; 4] {
-    match call {
-        Call::Root | Call::RootByTable => [chance.next() % 66000, 0, 0, 0],
-        Call::Power | Call::PowerByTable => {
-            let [t, e] = chance.draws::<2>();
-            [t % 66000, 15 + e % 35, 0, 0]
-        }
-        Call::Held => {
-            let [c, m, e] = curve(chance);
-            [c, m, e, up_to(m.saturating_add(1), chance.next())]
-        }
-        Call::Ordinate => {
-            let [c, m, e] = curve(chance);
-            [c, m, e, up_to(c.saturating_add(1), chance.next())]
-        }
-        Call::Store => {
-            let [a, g] = chance.draws::<2>();
-            let content = wide(chance) >> (chance.next() % 60);
-            let inflow = (wide(chance) * 2) >> (chance.next() % 60);
-            [a % 66000, g % 66000, content, inflow]
-        }
-    }
+// A curve and a.
+pub fn held(chance: &mut Chance) -> (Curve, u64) {
+    let curve = curve(chance);
+    (curve, up_to(curve.m.saturating_add(1), chance.next()))
 }
 
-// c, m and e.
-fn curve(chance: &mut Chance) -> [u64; 3] {
+// A curve and w.
+pub fn ordinate(chance: &mut Chance) -> (Curve, u64) {
+    let curve = curve(chance);
+    (curve, up_to(curve.c.saturating_add(1), chance.next()))
+}
+
+// A store and its inflow.
+fn store(chance: &mut Chance) -> (Store, u64) {
+    let [a, g] = chance.draws::<2>();
+    let content = wide(chance) >> (chance.next() % 60);
+    let inflow = (wide(chance) * 2) >> (chance.next() % 60);
+    let store = Store {
+        a: a % 66000,
+        g: g % 66000,
+        content,
+    };
+    (store, inflow)
+}
+
+fn curve(chance: &mut Chance) -> Curve {
     let c = capacity(chance, 500001);
     let m = capacity(chance, 2000001);
-    [c, m, 15 + chance.next() % 35]
+    let e = 15 + chance.next() % 35;
+    Curve { c, m, e }
 }
 
 // A capacity of one of four sizes, the largest up to the most.

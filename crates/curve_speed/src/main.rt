@@ -2,11 +2,8 @@
 // none can begin early. `curve_speed WAY` takes 100 rounds of 65,536 by one way; without an argument it takes a round by each, which is a test.
 #![tactic(auto)]
 
-ghost use Rattle.std.specs.Prelude.{◌≤◌};
-
-use common::refusal::Refusal;
-use curve::capacity;
-use curve::capacity::{Curve, Newton, Printed, Roots};
+use common::shares::ONE;
+use curve::capacity::{self, Curve, Newton, Printed, Roots};
 use std::{env, fmt, io};
 
 // Idle, a root by each way, and searches: of many curves, and of the one point where most trials are needed.
@@ -20,16 +17,14 @@ enum Way {
     Worst,
 }
 
-const TESTED: [Way; 5] = [Way::Newton, Way::Lent, Way::Made, Way::Search, Way::Worst];
-
-const ROUND: u64 = 65536;
+const ROUND: u32 = 65536;
 
 fn main(rt: HostRuntime) -> io::Result<()> {
     let roots = capacity::printed_roots();
     if let Some(word) = env::args(&rt)?.nth(1) {
         return print(&rt, Way::from(word.as_str()), &roots, 100 * ROUND);
     }
-    for way in TESTED {
+    for way in Way::TESTED {
         print(&rt, way, &roots, ROUND)?;
     }
     Ok(())
@@ -62,50 +57,60 @@ impl fmt::Display for Way {
     }
 }
 
-fn print(rt: &impl Print, way: Way, roots: &Roots, count: u64) -> io::Result<()>
-    requires { count ≤ 6553600 }
-{
-    println!(rt; "{way} {}", chain(way, roots, count))
+fn print(rt: &impl Print, way: Way, roots: &Roots, count: u32) -> io::Result<()> {
+    println!(rt; "{way} {}", way.last(roots, count))
 }
 
-// The last answer of a chain.
-fn chain(way: Way, roots: &Roots, count: u64) -> u64
-    requires { count ≤ 6553600 }
+impl Way {
+    const TESTED: [Way; 5] = [Way::Newton, Way::Lent, Way::Made, Way::Search, Way::Worst];
+
+    // The last answer of a chain.
+    fn last(self, roots: &Roots, count: u32) -> u64 {
+        match self {
+            Way::Idle => chain(count, |i, r| argument(i, r)),
+            Way::Newton => chain(count, |i, r| {
+                capacity::root(&Newton, argument(i, r)).unwrap_or(0)
+            }),
+            Way::Lent => chain(
+                count,
+                |i, r| capacity::root(roots, argument(i, r)).unwrap_or(0),
+            ),
+            Way::Made => chain(count, |i, r| {
+                capacity::root(&Printed, argument(i, r)).unwrap_or(0)
+            }),
+            Way::Search => chain(count, |i, r| search(roots, i, r)),
+            Way::Worst => chain(count, |_, r| worst(roots, r)),
+        }
+    }
+}
+
+// Each answer by its number and the one before.
+fn chain<F: Fn(u32, u64) -> u64>(count: u32, answer: F) -> u64
+    requires { F.IsAlwaysCallable answer }
 {
     let mut r = 0;
     for i in 0..count {
-        r = turn(way, roots, i, r);
+        r = answer(i, r);
     }
     r
 }
 
-// One chain for all ways, so that idle takes what the others take beside their calls.
-fn turn(way: Way, roots: &Roots, i: u64, r: u64) -> u64
-    requires { i ≤ 6553600 }
-{
-    let t = (i * 40503 + r % ROUND) % ROUND;
-    match way {
-        Way::Idle => t,
-        Way::Newton => value(capacity::root(&Newton, t)),
-        Way::Lent => value(capacity::root(roots, t)),
-        Way::Made => value(capacity::root(&Printed, t)),
-        Way::Search => search(roots, i, r),
-        Way::Worst => worst(roots, r),
-    }
+// What a root is taken of, which idle takes alone.
+fn argument(i: u32, r: u64) -> u64 {
+    (u64::from(i) * 40503 + r % ONE) % ONE
 }
 
-fn search(roots: &Roots, i: u64, r: u64) -> u64
-    requires { i ≤ 6553600 }
-{
+fn search(roots: &Roots, i: u32, r: u64) -> u64 {
+    let i = u64::from(i);
     let c = 100000 + i * 7919 % 400001;
     let m = 150000 + i * 104729 % 1850001;
-    let w = (i * 40503 + r % ROUND) % c;
+    let w = (i * 40503 + r % ONE) % c;
     let curve = Curve {
         c,
         m,
         e: 16 + i % 33,
     };
-    value(curve.ordinate(roots, w))
+    curve.ordinate(roots, w).unwrap_or(0)
 }
 
 // As no ordinate is above 2,000,000, w is always the same.
@@ -115,9 +120,5 @@ fn worst(roots: &Roots, r: u64) -> u64 {
         m: 2000000,
         e: 43,
     };
-    value(curve.ordinate(roots, 65535 - r / 2000001 % 2))
-}
-
-fn value(given: Result<u64, Refusal>) -> u64 {
-    given.unwrap_or(0)
+    curve.ordinate(roots, 65535 - r / 2000001 % 2).unwrap_or(0)
 }

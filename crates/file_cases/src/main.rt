@@ -8,20 +8,22 @@ mod loads;
 
 use std::io;
 use testing::choices::Choice;
+use testing::drafts::Plan;
 
 fn main(rt: HostRuntime) -> io::Result<()> {
     for choice in [Choice::Least, Choice::Most, Choice::End, Choice::Any] {
         cases::every_size(&rt, choice)?;
     }
-    cases::sizes(&rt, 1, 0)?;
-    cases::sizes(&rt, 2, 3)?;
-    cases::sizes(&rt, 32, 31)?;
+    cases::sizes(&rt, Plan::chosen(Choice::Any, 1, 0))?;
+    cases::sizes(&rt, Plan::chosen(Choice::Any, 2, 3))?;
+    cases::sizes(&rt, Plan::chosen(Choice::Any, 32, 31))?;
     cases::counts(&rt)?;
     for choice in [Choice::Any, Choice::Most] {
-        cases::words(&rt, choice, 2, 2, true)?;
+        let plan = Plan::chosen(choice, 2, 2);
+        cases::words(&rt, plan, |at, told| cases::line(&rt, at, told))?;
     }
     for choice in [Choice::Least, Choice::Most, Choice::Any] {
-        cases::words(&rt, choice, 32, 31, false)?;
+        cases::words(&rt, Plan::chosen(choice, 32, 31), |_, _| Ok(()))?;
     }
     cases::shares(&rt)?;
     cases::nexts(&rt)?;

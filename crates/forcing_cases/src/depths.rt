@@ -1,9 +1,8 @@
 // The depth call on chosen numbers, printed, and on long series of them, folded into a checksum for each.
 use crate::numbers;
-use common::refusal::Refusal;
-use forcing::depth;
-use forcing::depth::Gauge;
-use std::{fmt, io};
+use forcing::depth::{self, Gauge};
+use std::io;
+use std::num::f32_from_bits_with_nan;
 use testing::chance::Chance;
 use testing::checksum::Checksum;
 use testing::lines::Row;
@@ -39,79 +38,120 @@ const HALVES: [u64; 20] = [
     999937, 999998, 999999, 1000000,
 ];
 
-#[derive(Clone, Copy)]
-pub enum Part {
-    // A centre, or one pattern off it, printed.
-    Centres,
-    // A half and the patterns beside it, printed.
-    Halves,
-    // Every half, and the patterns beside it.
-    EveryHalf,
-    EveryExponent,
-    Any,
-    Near,
+const FRACTIONS: [u32; 4] = [0, 1, 0x40_0000, 0x7f_ffff];
+
+// Every series of a gauge, with the halves up to its limit.
+pub fn print(rt: &impl Print, said: Gauge, limit: u64) -> io::Result<()> {
+    centres(rt, said)?;
+    halves(rt, said)?;
+    every_half(rt, said, limit)?;
+    every_exponent(rt, said)?;
+    drawn(rt, said, "any", |draws| numbers::any(draws))?;
+    drawn(rt, said, "near", |draws| numbers::near(draws))
 }
 
-impl fmt::Display for Part {
-    fn fmt<W: fmt::Write>(&self, f: &mut fmt::Formatter<W>) -> fmt::Result {
-        f.write_str(match self {
-            Part::Centres => "centres",
-            Part::Halves => "halves",
-            Part::EveryHalf => "every half",
-            Part::EveryExponent => "every exponent",
-            Part::Any => "any",
-            Part::Near => "near",
-        })
-    }
-}
-
-impl Part {
-    // Number i, by two draws.
-    fn pattern(self, i: u64, x: u64, y: u64) -> u32 {
-        match self {
-            Part::Centres => numbers::beside(CENTRES[(i / 3 % 20) as usize], i),
-            Part::Halves => numbers::around_half(HALVES[(i / 3 % 20) as usize], i),
-            Part::EveryHalf => numbers::around_half(i / 3, i),
-            Part::EveryExponent => numbers::each_exponent(i),
-            Part::Any => numbers::any(x, y),
-            Part::Near => numbers::near(x, y),
+fn centres(rt: &impl Print, said: Gauge) -> io::Result<()> {
+    let mut series = Series::new(said);
+    for centre in CENTRES {
+        for pattern in numbers::around(centre) {
+            series.print(rt, pattern)?;
         }
     }
-
-    fn shows(self, i: u64) -> bool {
-        match self {
-            Part::Centres | Part::Halves => true,
-            Part::EveryHalf | Part::EveryExponent => false,
-            Part::Any | Part::Near => i % 5000 == 0,
-        }
-    }
+    series.end(rt, "centres")
 }
 
-pub fn series(rt: &impl Print, part: Part, said: Gauge, count: u64) -> io::Result<()> {
-    let gauge = name_of(said);
+fn halves(rt: &impl Print, said: Gauge) -> io::Result<()> {
+    let mut series = Series::new(said);
+    for k in HALVES {
+        for pattern in numbers::around_half(k) {
+            series.print(rt, pattern)?;
+        }
+    }
+    series.end(rt, "halves")
+}
+
+fn every_half(rt: &impl Print, said: Gauge, limit: u64) -> io::Result<()> {
+    let mut series = Series::new(said);
+    for k in 0..=limit {
+        for pattern in numbers::around_half(k) {
+            series.add(pattern);
+        }
+    }
+    series.end(rt, "every half")
+}
+
+// With four fractions and both signs.
+fn every_exponent(rt: &impl Print, said: Gauge) -> io::Result<()> {
+    let mut series = Series::new(said);
+    for fraction in FRACTIONS {
+        for exponent in 0..256 {
+            for sign in [0, 0x8000_0000] {
+                series.add(sign | exponent * 0x80_0000 | fraction);
+            }
+        }
+    }
+    series.end(rt, "every exponent")
+}
+
+fn drawn<F: Fn([u64; 2]) -> u32>(
+    rt: &impl Print,
+    said: Gauge,
+    part: &str,
+    pattern: F,
+) -> io::Result<()>
+    requires { F.IsAlwaysCallable pattern }
+{
     let mut chance = Chance::new();
-    let mut sum = Checksum::new();
-    for i in 0..count {
-        let [x, y] = chance.draws::<2>();
-        let pattern = part.pattern(i, x, y);
-        let row = told(depth::depth_of(numbers::number(pattern), said));
-        if part.shows(i) {
-            println!(rt; "{gauge} {pattern}{}", Row(&row))?;
+    let mut series = Series::new(said);
+    for i in 0..100000 {
+        let pattern = pattern(chance.draws());
+        if i % 5000 == 0 {
+            series.print(rt, pattern)?;
+        } else {
+            series.add(pattern);
         }
-        sum.add_row(&row);
     }
-    println!(rt; "{gauge} {part} {sum}")
+    series.end(rt, part)
 }
 
+// Numbers by their patterns, one after the other.
+#[derive(Clone, Copy)]
+struct Series {
+    said: Gauge,
+    sum: Checksum,
+}
+
+impl Series {
+    fn new(said: Gauge) -> Series {
+        Series {
+            said,
+            sum: Checksum::default(),
+        }
+    }
+
+    // Number, place and depth.
+    fn add(&mut self, pattern: u32) -> [u64; 3] {
+        let x = f32_from_bits_with_nan(pattern);
+        let told = refusals::with_value(depth::depth_of(x, self.said));
+        self.sum.add_row(&told);
+        told
+    }
+
+    // The same, in a line.
+    fn print(&mut self, rt: &impl Print, pattern: u32) -> io::Result<()> {
+        let told = self.add(pattern);
+        println!(rt; "{} {pattern}{}", name_of(self.said), Row(&told))
+    }
+
+    fn end(&self, rt: &impl Print, part: &str) -> io::Result<()> {
+        println!(rt; "{} {part} {}", name_of(self.said), self.sum)
+    }
+}
+
+// No Display: the type is forcing's, which prints none.
 fn name_of(said: Gauge) -> &'static str {
     match said {
         Gauge::Rain => "rain",
         Gauge::Pan => "pan",
     }
-}
-
-// Number, place and depth.
-fn told(given: Result<u64, Refusal>) -> [u64; 3] {
-    let [number, place] = refusals::told(&given);
-    [number, place, given.unwrap_or(0)]
 }

@@ -7,25 +7,14 @@ mod numbers;
 mod readings;
 mod reads;
 
-use depths::Part;
 use forcing::depth::Gauge;
 use std::io;
 
 fn main(rt: HostRuntime) -> io::Result<()> {
-    depth_calls(&rt, Gauge::Rain, 3 * 1000001)?;
-    depth_calls(&rt, Gauge::Pan, 3 * 100001)?;
+    depths::print(&rt, Gauge::Rain, 1000000)?;
+    depths::print(&rt, Gauge::Pan, 100000)?;
     reads::faults(&rt)?;
     reads::pairs(&rt)?;
     reads::counts(&rt)?;
     reads::any(&rt)
-}
-
-// Beside so many numbers stand the halves up to the gauge's limit.
-fn depth_calls(rt: &impl Print, said: Gauge, halves: u64) -> io::Result<()> {
-    depths::series(rt, Part::Centres, said, 60)?;
-    depths::series(rt, Part::Halves, said, 60)?;
-    depths::series(rt, Part::EveryHalf, said, halves)?;
-    depths::series(rt, Part::EveryExponent, said, 2048)?;
-    depths::series(rt, Part::Any, said, 100000)?;
-    depths::series(rt, Part::Near, said, 100000)
 }

@@ -1,34 +1,33 @@
 // The reading of a step's lines: with a fault at every place, with two, with every count, and in a random series.
 use crate::readings;
-use crate::readings::CHOSEN;
-use forcing::list;
-use forcing::list::Line;
+use common::weather::Weather;
+use forcing::list::{self, Line, Readings};
 use std::io;
 use testing::chance::Chance;
 use testing::checksum::Checksum;
 use testing::lines::Row;
 use testing::refusals;
 
-// A line of the table at a place, N and count at 32, up to the place and just before it.
+// A chosen line at a place, N and count at 32, up to the place and just before it.
 pub fn faults(rt: &impl Print) -> io::Result<()> {
-    let mut sum = Checksum::new();
-    for (f, bad) in CHOSEN.into_iter().enumerate() {
+    let mut sum = Checksum::default();
+    for (f, bad) in readings::chosen().into_iter().enumerate() {
         for at in 0..32 {
             let mut lines = readings::good();
-            lines[at] = Line::from(bad);
-            let shown = at % 10 == 1;
-            if shown {
-                print!(rt; "fault {f} {at}")?;
-            }
-            for count in [32, at as u64 + 1, at as u64] {
-                let given = read(lines, count, count);
-                if shown {
-                    print!(rt; "{}", Row(&given.told))?;
-                }
+            lines[at] = bad;
+            let all = read(lines, 32, 32);
+            let through = read(lines, at as u64 + 1, at as u64 + 1);
+            let before = read(lines, at as u64, at as u64);
+            for given in [all, through, before] {
                 given.add(&mut sum);
             }
-            if shown {
-                println!(rt; "")?;
+            if at % 10 == 1 {
+                println!(rt;
+                    "fault {f} {at}{}{}{}",
+                    Row(&all.told),
+                    Row(&through.told),
+                    Row(&before.told)
+                )?;
             }
         }
     }
@@ -37,13 +36,14 @@ pub fn faults(rt: &impl Print) -> io::Result<()> {
 
 // Two of them, at two places.
 pub fn pairs(rt: &impl Print) -> io::Result<()> {
-    let mut sum = Checksum::new();
+    let mut sum = Checksum::default();
+    let chosen = readings::chosen();
     for at in 0..32 {
-        for second in CHOSEN {
-            for first in CHOSEN {
+        for second in chosen {
+            for first in chosen {
                 let mut lines = readings::good();
-                lines[at] = Line::from(first);
-                lines[(at + 7) % 32] = Line::from(second);
+                lines[at] = first;
+                lines[(at + 7) % 32] = second;
                 read(lines, 32, 32).add(&mut sum);
             }
         }
@@ -67,10 +67,10 @@ const COUNTS: [u64; 10] = [
 
 // Every N with every count, with good lines and with a missing one.
 pub fn counts(rt: &impl Print) -> io::Result<()> {
-    let mut sum = Checksum::new();
+    let mut sum = Checksum::default();
     let good = readings::good();
     let mut missing = good;
-    missing[1] = Line::from(CHOSEN[0]);
+    missing[1] = readings::chosen()[0];
     for lines in [good, missing] {
         for count in COUNTS {
             for n in COUNTS {
@@ -86,7 +86,7 @@ pub fn counts(rt: &impl Print) -> io::Result<()> {
 // N from 0 to 33, and one count of 16 is drawn too.
 pub fn any(rt: &impl Print) -> io::Result<()> {
     let mut chance = Chance::new();
-    let mut sum = Checksum::new();
+    let mut sum = Checksum::default();
     for i in 0..20000 {
         let [x, y] = chance.draws::<2>();
         let n = x % 34;
@@ -94,9 +94,10 @@ pub fn any(rt: &impl Print) -> io::Result<()> {
         let given = read(readings::any(&mut chance), count, n);
         if i % 2500 == 0 {
             println!(rt;
-                "read {n} {count}{}{}",
+                "read {n} {count}{}{}{}",
                 Row(&given.told),
-                Row(&given.depths)
+                Row(&given.rain),
+                Row(&given.pan)
             )?;
         }
         given.add(&mut sum);
@@ -108,30 +109,30 @@ pub fn any(rt: &impl Print) -> io::Result<()> {
 #[derive(Clone, Copy)]
 struct Told {
     told: [u64; 3],
-    depths: [u64; 64],
+    rain: [u64; 32],
+    pan: [u64; 32],
 }
 
 impl Told {
     fn add(&self, sum: &mut Checksum) {
         sum.add_row(&self.told);
-        sum.add_row(&self.depths);
+        sum.add_row(&self.rain);
+        sum.add_row(&self.pan);
     }
 }
+
+const NONE: Readings = Readings {
+    estimated: 0,
+    weather: [Weather { rain: 0, pan: 0 }; 32],
+};
 
 fn read(lines: [Line; 32], count: u64, n: u64) -> Told {
     let given = list::read(lines, count, n);
     let [number, place] = refusals::told(&given);
-    let mut depths = [0; 64];
-    let mut estimated = 0;
-    if let Ok(readings) = given {
-        estimated = readings.estimated;
-        for (i, here) in readings.weather.into_iter().enumerate() {
-            depths[i] = here.rain;
-            depths[i + 32] = here.pan;
-        }
-    }
+    let Readings { estimated, weather } = given.unwrap_or(NONE);
     Told {
         told: [number, place, estimated],
-        depths,
+        rain: weather.map(|here| here.rain),
+        pan: weather.map(|here| here.pan),
     }
 }

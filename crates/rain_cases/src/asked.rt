@@ -2,8 +2,7 @@
 use basin::state::Basin;
 use common::refusal::Refusal;
 use common::weather::Weather;
-use forcing::depth;
-use forcing::depth::Gauge;
+use forcing::depth::{self, Gauge};
 use subbasin::record::SubBasin;
 use testing::refusals;
 
@@ -21,20 +20,19 @@ pub struct Question<'a> {
 impl Question<'_> {
     // What is printed of the answer.
     pub fn told(&self, wanted: u64) -> [u64; 4] {
-        told(&self.answer(wanted), &self.sub(), self.pan_depth(), wanted)
+        self.own().row(&self.answer(wanted), wanted)
     }
 
     fn answer(&self, wanted: u64) -> Answer {
         rains::rain_for(self.basin, self.number, self.pan, wanted)
     }
 
-    pub fn sub(&self) -> SubBasin {
-        self.basin.subs[((self.number % 32 + 31) % 32) as usize]
-    }
-
-    // In µm.
-    pub fn pan_depth(&self) -> u64 {
-        depth::depth_of(self.pan, Gauge::Pan).unwrap_or(0)
+    // The same of the sub-basin alone.
+    pub fn own(&self) -> Own {
+        Own {
+            sub: self.basin.subs[((self.number % 32 + 31) % 32) as usize],
+            pan: depth::depth_of(self.pan, Gauge::Pan).unwrap_or(0),
+        }
     }
 
     // The greatest depth below 2^20 that is answered with a rain, bit by bit.
@@ -50,33 +48,45 @@ impl Question<'_> {
     }
 }
 
-// The same of the sub-basin's own call.
-pub fn own_told(s: &SubBasin, pan: u64, wanted: u64) -> [u64; 4] {
-    told(&s.rain_for(pan, wanted), s, pan, wanted)
-}
-
-// Number, place, whether the answer is none, and whether its rain does; of a refusal or none the last is what stands for the rain.
-fn told(given: &Answer, s: &SubBasin, pan: u64, wanted: u64) -> [u64; 4] {
-    let [number, place] = refusals::told(given);
-    let last = rain_of(given).map_or(0, |rain| u64::from(does(s, rain, pan, wanted)));
-    [number, place, u64::from(*given == Ok(None)), last]
-}
-
 fn rain_of(given: &Answer) -> Option<u64> {
     given.unwrap_or(None)
 }
 
-// Whether the rain is one of the 1,001 and yields the wanted depth.
-fn does(s: &SubBasin, rain: u64, pan: u64, wanted: u64) -> bool {
-    rain <= 1000 && wanted <= yielded(s, rain, pan)
+// A question of the sub-basin's own call but for the wanted depth: the pan depth is in µm.
+#[derive(Clone, Copy)]
+pub struct Own {
+    pub sub: SubBasin,
+    pub pan: u64,
 }
 
-// RB + R of a step under so many millimetres of rain.
-pub fn yielded(s: &SubBasin, rain: u64, pan: u64) -> u64 {
-    let rain = rain.saturating_mul(1000);
-    let mut after = *s;
-    match after.step(Weather { rain, pan }) {
-        Ok(given) => given.rb.wrapping_add(given.r),
-        Err(_) => 0,
+impl Own {
+    // What is printed of the answer.
+    pub fn told(&self, wanted: u64) -> [u64; 4] {
+        self.row(&self.sub.rain_for(self.pan, wanted), wanted)
+    }
+
+    // Number, place, whether the answer is none, and whether its rain does; of a refusal or none the last is what stands for the rain.
+    fn row(&self, given: &Answer, wanted: u64) -> [u64; 4] {
+        let [number, place] = refusals::told(given);
+        let last = rain_of(given).map_or(0, |rain| u64::from(self.does(rain, wanted)));
+        [number, place, u64::from(*given == Ok(None)), last]
+    }
+
+    // Whether the rain is one of the 1,001 and yields the wanted depth.
+    fn does(&self, rain: u64, wanted: u64) -> bool {
+        rain <= 1000 && wanted <= self.yielded(rain)
+    }
+
+    // RB + R of a step under so many millimetres of rain.
+    pub fn yielded(&self, rain: u64) -> u64 {
+        let mut after = self.sub;
+        let rain = rain.saturating_mul(1000);
+        match after.step(Weather {
+            rain,
+            pan: self.pan,
+        }) {
+            Ok(given) => given.rb.wrapping_add(given.r),
+            Err(_) => 0,
+        }
     }
 }

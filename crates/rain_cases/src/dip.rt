@@ -1,13 +1,9 @@
 // A sub-basin where 7 mm yield 5 µm, and 8 mm 4: UM is 0, LM and DM are 200,000 and BN is 20, all else as in case A. With a pan and
 // without, what the first rains yield, and a line for each of the first depths.
-use crate::asked;
 use crate::asked::Question;
 use basin::state::Basin;
 use basin_testing::calls;
 use std::io;
-use testing::chance::Chance;
-use testing::choices::Choice;
-use testing::drafts::Plan;
 use testing::lines::Row;
 
 pub fn rows(rt: &impl Print) -> io::Result<()> {
@@ -18,7 +14,7 @@ pub fn rows(rt: &impl Print) -> io::Result<()> {
 }
 
 pub fn basin() -> Basin {
-    let mut b = calls::started(Plan::chain(Choice::CaseA, 1, 0), &mut Chance::new());
+    let mut b = calls::case_a();
     let s = &mut b.subs[0];
     s.fixed.um = 0;
     s.fixed.lm = 200000;
@@ -34,14 +30,14 @@ fn under(rt: &impl Print, pan: f32) -> io::Result<()> {
         number: 1,
         pan,
     };
-    let pan = q.pan_depth();
-    print!(rt; "yields {pan}")?;
+    let own = q.own();
+    print!(rt; "yields {}", own.pan)?;
     for rain in 0..13 {
-        print!(rt; " {}", asked::yielded(&q.sub(), rain, pan))?;
+        print!(rt; " {}", own.yielded(rain))?;
     }
     println!(rt; "")?;
     for wanted in 0..13 {
-        println!(rt; "dip {pan} {wanted}{}", Row(&q.told(wanted)))?;
+        println!(rt; "dip {} {wanted}{}", own.pan, Row(&q.told(wanted)))?;
     }
     Ok(())
 }

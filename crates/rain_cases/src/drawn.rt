@@ -1,6 +1,5 @@
 // Basins of every choice, shape and size, as loaded and after eight steps of one spell: a line for each, with N, M, the steps, the
 // sub-basin's number, the pan depth, the greatest depth that any rain yields, and the answers for seven depths.
-use crate::asked;
 use crate::asked::Question;
 use basin::state::Basin;
 use basin_testing::{calls, weather};
@@ -39,8 +38,7 @@ pub fn go_on(b: &mut Basin, chance: &mut Chance, count: u64) {
     let spell = chance.x % 5 * 32;
     for _ in 0..count {
         let lines = weather::drawn(spell, chance);
-        let n = b.n;
-        let _ = b.step(lines, n);
+        let _ = b.step(lines, b.n);
     }
 }
 
@@ -51,11 +49,11 @@ fn questions(rt: &impl Print, b: &Basin, chance: &mut Chance) -> io::Result<()> 
     let q = Question {
         basin: b,
         number: (y % b.n.max(1)).wrapping_add(1),
-        pan: pan(y / 1024 % 4, x1, x2),
+        pan: pan(y / 1024 % 4, [x1, x2]),
     };
-    let pan = q.pan_depth();
+    let own = q.own();
     let greatest = q.greatest();
-    print!(rt; " {} {pan} {greatest}", q.number)?;
+    print!(rt; " {} {} {greatest}", q.number, own.pan)?;
     for wanted in [
         0,
         1,
@@ -63,7 +61,7 @@ fn questions(rt: &impl Print, b: &Basin, chance: &mut Chance) -> io::Result<()> 
         greatest.wrapping_add(1),
         u64::MAX,
         z % (greatest % 1048576 + 1001),
-        asked::yielded(&q.sub(), y / 4096 % 1001, pan).wrapping_add(1),
+        own.yielded(y / 4096 % 1001).wrapping_add(1),
     ] {
         print!(rt; "{}", Row(&q.told(wanted)))?;
     }
@@ -71,10 +69,10 @@ fn questions(rt: &impl Print, b: &Basin, chance: &mut Chance) -> io::Result<()> 
 }
 
 // Often no water, and often the most.
-fn pan(k: u64, x: u64, y: u64) -> f32 {
+fn pan(k: u64, draws: [u64; 2]) -> f32 {
     match k {
         0 => 0.0,
         1 => 100.0,
-        _ => weather::line(128, x, y).pan,
+        _ => weather::line(128, draws).pan,
     }
 }

@@ -1,6 +1,6 @@
 // The sub-basin's own call. A line for every number of a record, with its place, and the answers where it is below its range, at both
 // its ends, above, and the greatest u64; REACH isn't judged. Then a line for each pan depth, with it, on three records.
-use crate::asked::own_told;
+use crate::asked::Own;
 use crate::{dip, drawn};
 use basin::state::Basin;
 use basin_testing::{calls, places};
@@ -23,9 +23,10 @@ pub fn rows(rt: &impl Print) -> io::Result<()> {
     let records = [fresh.subs[0], worn.subs[0], dip::basin().subs[0]];
     for pan in PANS {
         print!(rt; "pan {pan}")?;
-        for s in &records {
+        for sub in records {
+            let own = Own { sub, pan };
             for wanted in [0, 5, u64::MAX] {
-                print!(rt; "{}", Row(&own_told(s, pan, wanted)))?;
+                print!(rt; "{}", Row(&own.told(wanted)))?;
             }
         }
         println!(rt; "")?;
@@ -40,7 +41,11 @@ fn numbers(rt: &impl Print, b: &Basin) -> io::Result<()> {
         for edge in Edge::ALL {
             let mut here = *b;
             places::put_edge(&mut here, 2 + place, edge);
-            print!(rt; "{}", Row(&own_told(&here.subs[0], 2000, 5000)))?;
+            let own = Own {
+                sub: here.subs[0],
+                pan: 2000,
+            };
+            print!(rt; "{}", Row(&own.told(5000)))?;
         }
         println!(rt; "")?;
     }

@@ -34,24 +34,15 @@ enum State {
     Even,
 }
 
-const STATES: [State; 5] = [
-    State::Dry,
-    State::Any,
-    State::Wet,
-    State::Large,
-    State::Even,
-];
-
 fn main(rt: HostRuntime) -> io::Result<()> {
     let mut words = env::args(&rt)?;
     if let Some(word) = words.nth(1) {
-        let state = match words.next() {
-            Some(state) => State::from(state.as_str()),
-            None => State::Any,
-        };
+        let state = words
+            .next()
+            .map_or(State::Any, |state| State::from(state.as_str()));
         return print(&rt, Way::from(word.as_str()), state, 100);
     }
-    for state in STATES {
+    for state in State::ALL {
         print(&rt, Way::Call, state, 1)?;
         print(&rt, Way::None, state, 1)?;
     }
@@ -105,10 +96,30 @@ impl fmt::Display for State {
 
 // The checksum of all answers.
 fn print(rt: &impl Print, way: Way, state: State, rounds: u64) -> io::Result<()> {
-    println!(rt; "{way} {state} {}", taken(way, state, rounds))
+    println!(rt; "{way} {state} {}", way.taken(state, rounds))
 }
 
-fn taken(way: Way, state: State, rounds: u64) -> Checksum {
+impl Way {
+    fn taken(self, state: State, rounds: u64) -> Checksum {
+        match self {
+            Way::Idle => taken(state, rounds, |_, _| {}),
+            Way::Call => taken(state, rounds, |s, sum| add_call(sum, s.step(MOST))),
+            Way::None => taken(state, rounds, |s, sum| {
+                add_answer(sum, s.rain_for(0, u64::MAX))
+            }),
+        }
+    }
+}
+
+const MOST: Weather = Weather {
+    rain: 1000000,
+    pan: 0,
+};
+
+// What is asked of each sub-basin in turn, beside which idle takes the WU alone.
+fn taken<F: Fn(&mut SubBasin, &mut Checksum)>(state: State, rounds: u64, ask: F) -> Checksum
+    requires { F.IsAlwaysCallable ask }
+{
     let mut b = calls::started(Plan::chain(Choice::Ordinary, 32, 31), &mut Chance::new());
     for s in &mut b.subs {
         state.fill(s);
@@ -116,13 +127,24 @@ fn taken(way: Way, state: State, rounds: u64) -> Checksum {
     let mut sum = Checksum { h: 1 };
     for _ in 0..rounds {
         for s in &b.subs {
-            turn(way, state, *s, &mut sum);
+            let mut s = *s;
+            s.contents.wu = state.upper(s.fixed.um, sum.h);
+            sum.add(s.contents.wu);
+            ask(&mut s, &mut sum);
         }
     }
     sum
 }
 
 impl State {
+    const ALL: [State; 5] = [
+        State::Dry,
+        State::Any,
+        State::Wet,
+        State::Large,
+        State::Even,
+    ];
+
     // All but WU.
     fn fill(self, s: &mut SubBasin) {
         match self {
@@ -167,21 +189,6 @@ fn enlarge(s: &mut SubBasin, bn: u64, im: u64) {
     s.fixed.dm = 200000;
     s.fixed.bn = bn;
     s.fixed.im = im;
-}
-
-// One turn for all ways, so that idle takes what the others take beside their calls.
-fn turn(way: Way, state: State, mut s: SubBasin, sum: &mut Checksum) {
-    let most = Weather {
-        rain: 1000000,
-        pan: 0,
-    };
-    s.contents.wu = state.upper(s.fixed.um, sum.h);
-    sum.add(s.contents.wu);
-    match way {
-        Way::Idle => {}
-        Way::Call => add_call(sum, s.step(most)),
-        Way::None => add_answer(sum, s.rain_for(0, u64::MAX)),
-    }
 }
 
 fn add_call(sum: &mut Checksum, given: Result<Flows, Refusal>) {

@@ -44,42 +44,55 @@ impl Call {
     }
 
     pub fn at(&self, place: usize) -> u64 {
-        if place < RAIN {
-            rows::at(&self.record, place)
-        } else if place == RAIN {
-            self.weather.rain
-        } else {
-            self.weather.pan
+        match Spot::from(place) {
+            Spot::Record(place) => rows::at(&self.record, place),
+            Spot::Rain => self.weather.rain,
+            Spot::Pan => self.weather.pan,
         }
     }
 
     pub fn put(&mut self, place: usize, v: u64) {
-        if place < RAIN {
-            rows::put(&mut self.record, place, v);
-        } else if place == RAIN {
-            self.weather.rain = v;
-        } else {
-            self.weather.pan = v;
+        match Spot::from(place) {
+            Spot::Record(place) => rows::put(&mut self.record, place, v),
+            Spot::Rain => self.weather.rain = v,
+            Spot::Pan => self.weather.pan = v,
         }
     }
 
-    pub fn range_of(&self, place: usize) -> Range {
-        if place < RAIN {
-            record_range(&self.record, place, MOST_SLOW)
-        } else if place == RAIN {
-            Range::between(0, MOST_RAIN)
-        } else {
-            Range::between(0, MOST_PAN)
+    fn range_of(&self, place: usize) -> Range {
+        match Spot::from(place) {
+            Spot::Record(place) => record_range(&self.record, place, MOST_SLOW),
+            Spot::Rain => Range::between(0, MOST_RAIN),
+            Spot::Pan => Range::between(0, MOST_PAN),
         }
     }
 
-    // One above the most, or below the least where that is asked for and there is one: a draw chooses, so it is a bool.
-    pub fn outside(&self, place: usize, below: bool) -> u64 {
+    // At an edge of its range, or above it where nothing stands below.
+    pub fn edge_of(&self, place: usize, edge: Edge) -> u64 {
         let range = self.range_of(place);
-        if below && 0 < range.least {
-            range.below
+        match edge {
+            Edge::Below if range.least == 0 => range.at(Edge::Above),
+            _ => range.at(edge),
+        }
+    }
+}
+
+// What stands at a place.
+#[derive(Clone, Copy)]
+enum Spot {
+    Record(usize),
+    Rain,
+    Pan,
+}
+
+impl From<usize> for Spot {
+    fn from(place: usize) -> Spot {
+        if place < RAIN {
+            Spot::Record(place)
+        } else if place == RAIN {
+            Spot::Rain
         } else {
-            range.at(Edge::Above)
+            Spot::Pan
         }
     }
 }

@@ -9,8 +9,8 @@ use testing::rows;
 // The places by choice, within the ranges of a basin file.
 pub fn choose(s: &mut SubBasin, choice: Choice, places: Range<usize>, chance: &mut Chance) {
     for place in places {
-        let [x, y] = chance.draws::<2>();
-        let v = choice.among(place, record_range(s, place, MOST_START), x, y);
+        let range = record_range(s, place, MOST_START);
+        let v = choice.among(place, range, chance.draws());
         rows::put(s, place, v);
     }
 }

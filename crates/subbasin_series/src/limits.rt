@@ -1,6 +1,5 @@
 // Every number of a call in turn: one below its least, at its least, at its most, one above, and at the greatest u64.
-use crate::calls;
-use crate::calls::Call;
+use crate::calls::{self, Call};
 use common::weather::Weather;
 use std::io;
 use subbasin::record::SubBasin;
@@ -21,18 +20,11 @@ pub fn places(rt: &impl Print, record: SubBasin) -> io::Result<()> {
 
 // The place, the refusal number of each of the five, and the checksum of their answers.
 fn line(rt: &impl Print, call: &Call, place: usize) -> io::Result<()> {
-    let range = call.range_of(place);
-    let mut sum = Checksum::new();
+    let mut sum = Checksum::default();
     print!(rt; "limits {place}")?;
-    for v in [
-        call.outside(place, true),
-        range.least,
-        range.most,
-        range.at(Edge::Above),
-        range.at(Edge::Far),
-    ] {
+    for edge in Edge::ALL {
         let mut here = *call;
-        here.put(place, v);
+        here.put(place, call.edge_of(place, edge));
         let given = here.take();
         print!(rt; " {}", refusals::told(&given)[0])?;
         calls::add(&mut sum, &given, &here.record);

@@ -2,8 +2,7 @@
 use crate::choices::{choose, replaced};
 use crate::{basins, series};
 use std::io;
-use subbasin::record;
-use subbasin::record::SubBasin;
+use subbasin::record::{self, SubBasin};
 use testing::chance::Chance;
 use testing::choices::Choice;
 use testing::climate::Climate;

@@ -1,4 +1,8 @@
 // The generator: x := x × 48,271 mod 2,147,483,647.
+ghost use Rattle.std.specs.Prelude.{◌<◌};
+
+use std::array;
+
 #[derive(Clone, Copy)]
 pub struct Chance {
     pub x: u64,
@@ -17,10 +21,13 @@ impl Chance {
 
     // The next N numbers, in order.
     pub fn draws<const N: usize>(&mut self) -> [u64; N] {
-        let mut drawn = [0; N];
-        for x in &mut drawn {
-            *x = self.next();
-        }
-        drawn
+        array::from_fn(|_| self.next())
     }
+}
+
+// One of several, by a draw.
+pub fn one_of<T: Copy, const N: usize>(several: [T; N], x: u64) -> T
+    requires { 0 < N }
+{
+    several[(x % N as u64) as usize]
 }

@@ -3,16 +3,12 @@ use crate::rows::Numbers;
 use std::fmt;
 use subbasin::record::SubBasin;
 
-#[derive(Clone, Copy, PartialEq, Eq)]
+#[derive(Clone, Copy, PartialEq, Eq, Default)]
 pub struct Checksum {
     pub h: u64,
 }
 
 impl Checksum {
-    pub fn new() -> Checksum {
-        Checksum { h: 0 }
-    }
-
     pub fn add(&mut self, v: u64) {
         self.h = (self.h % 4294967291 * 65599 + v % 4294967291) % 4294967291;
     }

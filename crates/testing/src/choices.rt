@@ -29,7 +29,7 @@ impl Choice {
     ];
 
     // For the place of a sub-basin's record, by two draws.
-    pub fn among(self, place: usize, range: Range, x: u64, y: u64) -> u64 {
+    pub fn among(self, place: usize, range: Range, [x, y]: [u64; 2]) -> u64 {
         match self {
             Choice::CaseA => case_a::WORDS[place % record::WORDS],
             Choice::Ordinary => ordinary(place, range.most, x),

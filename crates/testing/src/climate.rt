@@ -25,7 +25,7 @@ impl Climate {
     ];
 
     // The weather of step i, by two draws.
-    pub fn weather(self, i: u64, x: u64, y: u64) -> Weather {
+    pub fn weather(self, i: u64, [x, y]: [u64; 2]) -> Weather {
         let here = match self {
             Climate::Spells => Climate::ALL[(i / 32 % 5) as usize],
             climate => climate,

@@ -68,46 +68,51 @@ impl Plan {
         Plan::new(choice, Shape::Chain, n, m)
     }
 
+    // A reach flows on by choice.
+    pub fn chosen(choice: Choice, n: u64, m: u64) -> Plan {
+        Plan::new(choice, Shape::Chosen, n, m)
+    }
+
     // A good file, drawn.
     pub fn draft(self, chance: &mut Chance) -> File {
         let mut file = File::new(self.n, self.m);
         for at in 2..file.words() {
-            let [x, y] = chance.draws::<2>();
-            let v = self.word(file.spot_of(at), file.range_of(at), x, y);
+            let v = self.word(file.spot_of(at), file.range_of(at), chance.draws());
             file.put(at, v);
         }
         file
     }
 
-    fn word(self, spot: Spot, range: Range, x: u64, y: u64) -> u64 {
+    fn word(self, spot: Spot, range: Range, draws: [u64; 2]) -> u64 {
         match spot {
-            Spot::Reach { index, place } => self.reach_word(own_of(index), place, range, x, y),
-            Spot::Sub { index, place } => self.sub_word(own_of(index), place, range, x, y),
-            Spot::Count { place } => self.choice.among(place, range, x, y),
+            Spot::N => self.n,
+            Spot::M => self.m,
+            Spot::Sub { index, place } => self.sub_word(own_of(index), place, range, draws),
+            Spot::Reach { index, place } => self.reach_word(own_of(index), place, range, draws),
         }
     }
 
     // Q goes to reach 1 from the first sub-basin, and so on round with the outlet after the last.
-    fn sub_word(self, own: u64, place: usize, range: Range, x: u64, y: u64) -> u64 {
+    fn sub_word(self, own: u64, place: usize, range: Range, [x, y]: [u64; 2]) -> u64 {
         let ends = self.m % 32 + 1;
         match self.shape {
             Shape::Any if place == ranges::REACH => x % ends,
             Shape::Chain | Shape::Star | Shape::Tree if place == ranges::REACH => own % ends,
-            _ => self.choice.among(place, range, x, y),
+            _ => self.choice.among(place, range, [x, y]),
         }
     }
 
     // c0, c1 and next.
-    fn reach_word(self, own: u64, place: usize, range: Range, x: u64, y: u64) -> u64 {
+    fn reach_word(self, own: u64, place: usize, range: Range, [x, y]: [u64; 2]) -> u64 {
         match self.choice {
-            _ if place == 2 => self.next_of(own, x, y),
+            _ if place == 2 => self.next_of(own, [x, y]),
             Choice::Ordinary if place == 0 => 2000 + x % 18001,
             Choice::Ordinary => choices::up_to(range.most, x),
-            choice => choice.among(place, range, x, y),
+            choice => choice.among(place, range, [x, y]),
         }
     }
 
-    fn next_of(self, own: u64, x: u64, y: u64) -> u64 {
+    fn next_of(self, own: u64, [x, y]: [u64; 2]) -> u64 {
         let m = self.m % 32;
         if m <= own {
             return 0;
@@ -119,7 +124,7 @@ impl Plan {
             Shape::Any => further(own, x % (m - own + 1)),
             Shape::Chosen => {
                 let range = Range::between(0, m - own);
-                further(own, self.choice.among(ranges::REACH, range, x, y))
+                further(own, self.choice.among(ranges::REACH, range, [x, y]))
             }
         }
     }

@@ -1,12 +1,10 @@
 // A basin file in a buffer of one word more than the longest file has.
 ghost use Rattle.std.specs.Prelude.{◌≤◌};
 
-use crate::ranges;
-use crate::ranges::Range;
+use crate::ranges::{self, Edge, Range};
 use crate::spots::Spot;
 use common::bytes;
-use subbasin::record;
-use subbasin::record::MOST_START;
+use subbasin::record::{self, MOST_START};
 
 // The words of a reach.
 const REACH_WORDS: usize = 3;
@@ -22,33 +20,36 @@ pub fn words(n: u64, m: u64) -> usize
     2 + record::WORDS * (n % 33) as usize + REACH_WORDS * (m % 32) as usize
 }
 
-// The file is the first bytes of the buffer, size of them: there is no heap, and tests need a byte past its end.
+// The file and zeros after it: tests need bytes past its end.
 #[derive(Clone, Copy)]
 pub struct File {
     pub bytes: [u8; BYTES],
-    pub size: usize,
 }
 
 impl File {
-    // Zeros after N and M, at the length that they ask for.
+    // Zeros after N and M.
     pub fn new(n: u64, m: u64) -> File {
-        let mut file = File {
-            bytes: [0; BYTES],
-            size: 4 * words(n, m),
-        };
+        let mut file = File { bytes: [0; BYTES] };
         file.put(0, n);
         file.put(1, m);
         file
     }
 
-    // At most the whole buffer.
-    pub fn as_slice(&self) -> &[u8] {
-        self.bytes.get(..self.size).unwrap_or(&self.bytes)
+    // How many words its N and M ask for.
+    pub fn words(&self) -> usize
+        ensures { result ≤ 4095 }
+    {
+        words(self.word(0), self.word(1))
     }
 
-    // How many words it has.
-    pub fn words(&self) -> usize {
-        self.size / 4
+    // At the length that its N and M ask for.
+    pub fn as_slice(&self) -> &[u8] {
+        self.first(4 * self.words())
+    }
+
+    // The first bytes of the buffer, at most all.
+    pub fn first(&self, size: usize) -> &[u8] {
+        self.bytes.get(..size).unwrap_or(&self.bytes)
     }
 
     // A word, least byte first.
@@ -64,27 +65,16 @@ impl File {
 
     // Where word number `at` stands, by the file's N.
     pub fn spot_of(&self, at: usize) -> Spot {
-        let subs = words(self.word(0), 0);
-        if at < 2 {
-            Spot::Count { place: at }
-        } else if at < subs {
-            Spot::Sub {
-                index: (at - 2) / record::WORDS,
-                place: (at - 2) % record::WORDS,
-            }
-        } else {
-            Spot::Reach {
-                index: (at - subs) / REACH_WORDS,
-                place: (at - subs) % REACH_WORDS,
-            }
-        }
+        let subs = (self.word(0) % 33) as usize;
+        Spot::of(at, subs, record::WORDS, REACH_WORDS)
     }
 
     // The range of word number `at`, by the words before it.
     pub fn range_of(&self, at: usize) -> Range {
         let m = self.word(1);
         match self.spot_of(at) {
-            Spot::Count { place } => Range::of_count(place),
+            Spot::N => Range::of_n(),
+            Spot::M => Range::of_m(),
             Spot::Sub { place, .. } => {
                 let limit = self.word(ranges::limiting(at, place));
                 Range::of_word(place, limit, m, MOST_START)
@@ -93,5 +83,11 @@ impl File {
                 Range::of_reach_word(place, self.word(at.saturating_sub(1)), m)
             }
         }
+    }
+    // The file with a word at an edge of its range.
+    pub fn edged(&self, at: usize, edge: Edge) -> File {
+        let mut other = *self;
+        other.put(at, self.range_of(at).at(edge));
+        other
     }
 }

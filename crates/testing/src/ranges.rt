@@ -1,8 +1,6 @@
 // The ranges of a file's words and of a record's numbers: document 01, "The basin file" and "Who sent it".
-use crate::rows;
-use crate::rows::Numbers;
-use subbasin::record;
-use subbasin::record::SubBasin;
+use crate::rows::{self, Numbers};
+use subbasin::record::{self, SubBasin};
 
 // The least, the most, and what stands below.
 #[derive(Clone, Copy)]
@@ -63,7 +61,7 @@ impl Range {
             2 => Range::between(0, 100000),
             3 => Range::between(1, 200000),
             4 => Range::between(0, 200000),
-            5 | 12 | 13 | 14 => Range::between(0, 65535),
+            5 | 12..=14 => Range::between(0, 65535),
             6 => Range::between(16, 32),
             7 => Range::between(0, 32768),
             8 => Range::between(1, 100000),
@@ -72,7 +70,7 @@ impl Range {
             11 => Range::between(0, rest(limit)),
             15 => Range::between(0, 15),
             16 => Range::between(0, m),
-            17 | 18 | 19 | 20 => Range::between(0, limit),
+            17..=20 => Range::between(0, limit),
             _ => Range::between(0, slow), // VI and VG
         }
     }
@@ -86,12 +84,12 @@ impl Range {
         }
     }
 
-    // N and M.
-    pub fn of_count(place: usize) -> Range {
-        match place {
-            0 => Range::between(1, 32),
-            _ => Range::between(0, 31),
-        }
+    pub fn of_n() -> Range {
+        Range::between(1, 32)
+    }
+
+    pub fn of_m() -> Range {
+        Range::between(0, 31)
     }
 
     // A record's number by its place: an amount in waiting that is not in use is 0.
@@ -116,7 +114,7 @@ impl Range {
 pub fn limiting(at: usize, place: usize) -> usize {
     let back = match place {
         11 => 1,
-        17 | 18 | 19 => 15,
+        17..=19 => 15,
         20 => 12,
         _ => 0,
     };

@@ -1,6 +1,5 @@
 // A sub-basin's record as numbers by place: the basin file's words, the 15 amounts in waiting, the channel store.
-use subbasin::record;
-use subbasin::record::SubBasin;
+use subbasin::record::{self, SubBasin};
 
 // The place of the channel store, the last.
 pub const CHANNEL: usize = record::WORDS + 15;

@@ -13,7 +13,7 @@ const LENGTHS: [usize; 5] = [0, 32, 33, 64, 224];
 
 pub fn rows(rt: &impl Print) -> io::Result<()> {
     let mut chance = Chance::new();
-    let mut told = Told::new();
+    let mut told = Told::default();
     for brim in Brim::ALL {
         for shape in Shape::OWN {
             row(rt, brim, shape, &mut chance, &mut told)?;

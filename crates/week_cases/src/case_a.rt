@@ -3,13 +3,10 @@ use crate::told::Told;
 use basin_testing::calls;
 use basin_testing::weather::CASE_A;
 use std::io;
-use testing::chance::Chance;
-use testing::choices::Choice;
-use testing::drafts::Plan;
 
 pub fn row(rt: &impl Print) -> io::Result<()> {
-    let mut b = calls::started(Plan::chain(Choice::CaseA, 1, 0), &mut Chance::new());
-    let mut told = Told::new();
+    let mut b = calls::case_a();
+    let mut told = Told::default();
     print!(rt; "case A")?;
     told.week(rt, &mut b, &CASE_A)?;
     println!(rt; "case A {told}")

@@ -20,7 +20,7 @@ const LISTS: [(u64, u64, [usize; 11]); 3] = [
 
 pub fn rows(rt: &impl Print) -> io::Result<()> {
     let mut chance = Chance::new();
-    let mut told = Told::new();
+    let mut told = Told::default();
     for (n, m, lengths) in LISTS {
         for long in lengths {
             let mut b = calls::started(Plan::chain(Choice::Ordinary, n, m), &mut chance);

@@ -1,6 +1,5 @@
 // Lists of lines, the first ones of a buffer, as there is no heap.
-use basin_testing::weather;
-use basin_testing::weather::Fault;
+use basin_testing::weather::{self, Fault};
 use forcing::list::{BLANK, Line};
 use testing::chance::Chance;
 
@@ -18,14 +17,13 @@ pub fn drawn<'a>(buffer: &'a mut [Line; MOST], long: usize, chance: &mut Chance)
 fn draw(lines: &mut [Line], chance: &mut Chance) {
     let from = chance.x % 160;
     for (k, line) in lines.iter_mut().enumerate() {
-        let [x, y] = chance.draws::<2>();
-        *line = weather::line(from + k as u64, x, y);
+        *line = weather::line(from + k as u64, chance.draws());
     }
 }
 
 // Puts a fault into a line, where the list has one there.
 pub fn spoil(lines: &mut [Line], at: usize, fault: Fault) {
     if let Some(line) = lines.get_mut(at) {
-        *line = weather::bad(*line, fault);
+        *line = fault.put(*line);
     }
 }

@@ -3,11 +3,11 @@ use crate::told::Told;
 use crate::{list, singly, told};
 use basin::state::Basin;
 use basin::week::Week;
-use basin_testing::weather::FAULTS;
+use basin_testing::weather::Fault;
 use basin_testing::{calls, places};
 use forcing::list::Line;
 use std::io;
-use testing::chance::Chance;
+use testing::chance::{self, Chance};
 use testing::choices::Choice;
 use testing::drafts::{Plan, SIZES, Shape};
 
@@ -20,23 +20,25 @@ struct Mixed {
     taken: u64,
 }
 
-// A list for every size and shape; the choices go round beside them, by the same number, so no loops nest.
+// A list for every size and shape; the choices go round beside them.
 pub fn rows(rt: &impl Print) -> io::Result<()> {
     let mut chance = Chance::new();
-    for k in 0..24usize {
-        let (n, m) = SIZES[k / 4 % 6];
-        let plan = Plan::new(Choice::DRAWN[k % 5], Shape::OWN[k % 4], n, m);
-        let basin = calls::started(plan, &mut chance);
-        let mut mixed = Mixed {
-            basin,
-            beside: basin,
-            told: Told::new(),
-            taken: 0,
-        };
-        for i in 0..64 {
-            mixed.turn(rt, i, &mut chance)?;
+    let mut choices = Choice::DRAWN.into_iter().cycle();
+    for (n, m) in SIZES {
+        for (shape, choice) in Shape::OWN.into_iter().zip(&mut choices) {
+            let plan = Plan::new(choice, shape, n, m);
+            let basin = calls::started(plan, &mut chance);
+            let mut mixed = Mixed {
+                basin,
+                beside: basin,
+                told: Told::default(),
+                taken: 0,
+            };
+            for i in 0..64 {
+                mixed.turn(rt, i, &mut chance)?;
+            }
+            println!(rt; "{plan} {} {}", mixed.taken, mixed.told)?;
         }
-        println!(rt; "{plan} {} {}", mixed.taken, mixed.told)?;
     }
     Ok(())
 }
@@ -66,21 +68,16 @@ impl Mixed {
         };
         let mut buffer = list::BUFFER;
         let lines = list::drawn(&mut buffer, long as usize, chance);
-        spoil(lines, y, z);
-        match way {
-            Way::Step => {
-                let ran = singly::steps(&mut self.basin, lines);
-                self.go_on(rt, i, &ran, lines)
-            }
-            Way::Week => {
-                let ran = week::week(&mut self.basin, lines);
-                self.go_on(rt, i, &ran, lines)
-            }
+        spoil(lines, [y, z]);
+        let ran = match way {
+            Way::Step => singly::steps(&mut self.basin, lines),
+            Way::Week => week::week(&mut self.basin, lines),
             Way::Astray => {
-                self.astray(lines, y, z);
-                Ok(())
+                self.astray(lines, [y, z]);
+                return Ok(());
             }
-        }
+        };
+        self.go_on(rt, i, &ran, lines)
     }
 
     // Every eighth list is printed.
@@ -95,11 +92,11 @@ impl Mixed {
         Ok(())
     }
 
-    fn astray(&mut self, lines: &[Line], y: u64, z: u64) {
+    fn astray(&mut self, lines: &[Line], draws: [u64; 2]) {
         let mut basin = self.basin;
         let mut beside = self.beside;
-        places::damage(&mut basin, y, z);
-        places::damage(&mut beside, y, z);
+        places::damage(&mut basin, draws);
+        places::damage(&mut beside, draws);
         let ran = week::week(&mut basin, lines);
         let singly = singly::week(&mut beside, lines);
         self.told.add(&ran, &basin, &singly, &beside);
@@ -117,19 +114,13 @@ fn length(n: u64, y: u64, z: u64) -> u64 {
 }
 
 // Of one list in three two lines are bad, among its own and the one past them.
-fn spoil(lines: &mut [Line], y: u64, z: u64) {
+fn spoil(lines: &mut [Line], [y, z]: [u64; 2]) {
     if z / 8 % 3 != 0 {
         return;
     }
     let ends = lines.len() as u64 + 1;
-    list::spoil(
-        lines,
-        (y / 128 % ends) as usize,
-        FAULTS[(z / 32 % 9) as usize],
-    );
-    list::spoil(
-        lines,
-        (z / 512 % ends) as usize,
-        FAULTS[(y / 1024 % 9) as usize],
-    );
+    let first = (y / 128 % ends) as usize;
+    let second = (z / 512 % ends) as usize;
+    list::spoil(lines, first, chance::one_of(Fault::ALL, z / 32));
+    list::spoil(lines, second, chance::one_of(Fault::ALL, y / 1024));
 }

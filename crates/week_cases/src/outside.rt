@@ -17,7 +17,7 @@ const LENGTHS: [usize; 4] = [0, 14, 15, 2002];
 
 pub fn rows(rt: &impl Print) -> io::Result<()> {
     let mut chance = Chance::new();
-    let mut told = Told::new();
+    let mut told = Told::default();
     for place in PLACES {
         for (k, edge) in Edge::NEAR.into_iter().enumerate() {
             for long in LENGTHS {

@@ -3,7 +3,7 @@
 use crate::list;
 use crate::told::Told;
 use basin_testing::calls;
-use basin_testing::weather::FAULTS;
+use basin_testing::weather::Fault;
 use std::io;
 use testing::chance::Chance;
 use testing::choices::Choice;
@@ -11,8 +11,8 @@ use testing::drafts::Plan;
 
 pub fn rows(rt: &impl Print) -> io::Result<()> {
     let mut chance = Chance::new();
-    let mut told = Told::new();
-    for (k, fault) in FAULTS.into_iter().enumerate() {
+    let mut told = Told::default();
+    for (k, fault) in Fault::ALL.into_iter().enumerate() {
         for step in [1, 3, 5] {
             for line in [1, 3] {
                 let mut b = calls::started(Plan::chain(Choice::Ordinary, 3, 2), &mut chance);

@@ -4,37 +4,40 @@ use basin::step::{Report, ZEROS};
 use basin::week::Week;
 use common::refusal::{Refusal, Refused};
 use forcing::list::{BLANK, Line};
+use std::array;
 
 pub fn week(b: &mut Basin, lines: &[Line]) -> Week {
-    let n = b.n;
-    let long = lines.len() as u64;
-    if let Some(refused) = judged(b, lines) {
-        return untaken(refused);
+    match judge(b, lines) {
+        Ok(()) => steps(b, lines),
+        Err(refused) => Week {
+            refusal: Some(refused),
+            ..BEGUN
+        },
     }
-    if n == 0 {
-        return untaken(Refusal::BadBasin.into());
-    }
-    if long % n != 0 || 1000 < long / n {
-        return untaken(Refusal::LineCount.into());
-    }
-    steps(b, lines)
 }
 
-// What a step with a wrong count gets, where that isn't 5.
-fn judged(b: &Basin, lines: &[Line]) -> Option<Refused> {
+// What a step with a wrong count gets, where that isn't 5, and then the length.
+fn judge(b: &Basin, lines: &[Line]) -> Result<(), Refused> {
     let mut same = *b;
     match same.step(places(lines), b.n % 33 + 1) {
-        Err(refused) if refused.why != Refusal::LineCount => Some(refused),
-        _ => None,
+        Err(refused) if refused.why != Refusal::LineCount => return Err(refused),
+        _ => {}
     }
+    if b.n == 0 {
+        return Err(Refusal::BadBasin.into());
+    }
+    let long = lines.len() as u64;
+    if long % b.n != 0 || 1000 < long / b.n {
+        return Err(Refusal::LineCount.into());
+    }
+    Ok(())
 }
 
 // Steps of N lines each; after a refused one there is none.
 pub fn steps(b: &mut Basin, lines: &[Line]) -> Week {
-    let n = b.n;
     let mut week = BEGUN;
-    for here in lines.chunks((n as usize).max(1)) {
-        match b.step(places(here), n) {
+    for here in lines.chunks((b.n as usize).max(1)) {
+        match b.step(places(here), b.n) {
             Ok(report) => {
                 week.count = week.count.wrapping_add(1);
                 week.report = together(week.report, report);
@@ -50,11 +53,7 @@ pub fn steps(b: &mut Basin, lines: &[Line]) -> Week {
 
 // The first lines in the 32 places of a step.
 fn places(lines: &[Line]) -> [Line; 32] {
-    let mut places = [BLANK; 32];
-    for (place, line) in places.iter_mut().zip(lines) {
-        *place = *line;
-    }
-    places
+    array::from_fn(|k| lines.get(k).copied().unwrap_or(BLANK))
 }
 
 fn together(sums: Report, last: Report) -> Report {
@@ -74,10 +73,3 @@ const BEGUN: Week = Week {
     report: ZEROS,
     refusal: None,
 };
-
-fn untaken(refused: Refused) -> Week {
-    Week {
-        refusal: Some(refused),
-        ..BEGUN
-    }
-}

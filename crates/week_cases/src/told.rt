@@ -7,22 +7,16 @@ use forcing::list::Line;
 use std::{fmt, io};
 use testing::checksum::Checksum;
 use testing::lines::Row;
+use testing::refusals;
 
 // The checksums of what weeks hand back and of what the same steps do singly.
-#[derive(Clone, Copy)]
+#[derive(Clone, Copy, Default)]
 pub struct Told {
     weeks: Checksum,
     steps: Checksum,
 }
 
 impl Told {
-    pub fn new() -> Told {
-        Told {
-            weeks: Checksum::new(),
-            steps: Checksum::new(),
-        }
-    }
-
     // A week, printed to end a line, and again by single steps; the basin is then the one after the week.
     pub fn week(&mut self, rt: &impl Print, b: &mut Basin, lines: &[Line]) -> io::Result<()> {
         let mut beside = *b;
@@ -35,10 +29,8 @@ impl Told {
 
     // What both hand back, each with its basin.
     pub fn add(&mut self, ran: &Week, b: &Basin, singly: &Week, beside: &Basin) {
-        self.weeks.add_row(&calls::of_week(ran));
-        checksum::add_basin(&mut self.weeks, b);
-        self.steps.add_row(&calls::of_week(singly));
-        checksum::add_basin(&mut self.steps, beside);
+        add(&mut self.weeks, ran, b);
+        add(&mut self.steps, singly, beside);
     }
 }
 
@@ -54,10 +46,25 @@ impl fmt::Display for Told {
     }
 }
 
+fn add(sum: &mut Checksum, ran: &Week, after: &Basin) {
+    sum.add_row(&refusal_of(ran));
+    sum.add(ran.count);
+    sum.add_row(&calls::of_report(&ran.report));
+    checksum::add_basin(sum, after);
+}
+
 pub fn print(rt: &impl Print, ran: &Week, after: &Basin) -> io::Result<()> {
     println!(rt;
-        "{} {}",
-        Row(&calls::of_week(ran)),
+        "{} {}{} {}",
+        Row(&refusal_of(ran)),
+        ran.count,
+        Row(&calls::of_report(&ran.report)),
         checksum::of_basin(after)
     )
+}
+
+// Number and place.
+fn refusal_of(ran: &Week) -> [u64; 2] {
+    ran.refusal
+        .map_or([0, 0], |refused| refusals::numbers(refused))
 }

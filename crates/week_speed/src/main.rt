@@ -7,10 +7,9 @@ use basin::state::Basin;
 use basin::step::Report;
 use basin_testing::{calls, checksum, weather};
 use common::refusal::Refused;
-use curve::capacity;
-use curve::capacity::Roots;
+use curve::capacity::{self, Roots};
 use forcing::list::{BLANK, Line};
-use std::{env, fmt, io};
+use std::{array, env, fmt, io};
 use testing::chance::Chance;
 use testing::choices::Choice;
 use testing::drafts::Plan;
@@ -23,19 +22,39 @@ enum Way {
     Lent,
 }
 
+// N, M, and a week's steps and lines.
+#[derive(Clone, Copy)]
+struct Size {
+    n: u64,
+    m: u64,
+    steps: u64,
+    lines: usize,
+}
+
+const SMALL: Size = Size {
+    n: 2,
+    m: 1,
+    steps: 1000,
+    lines: 2000,
+};
+
+const LARGE: Size = Size {
+    n: 32,
+    m: 31,
+    steps: 63,
+    lines: 2016,
+};
+
 fn main(rt: HostRuntime) -> io::Result<()> {
     let roots = capacity::printed_roots();
     let mut words = env::args(&rt)?;
     if let Some(word) = words.nth(1) {
-        let n = match words.next() {
-            Some(size) => sized(size.as_str()),
-            None => 32,
-        };
-        return print(&rt, Way::from(word.as_str()), &roots, n, 100);
+        let size = words.next().map_or(LARGE, |size| Size::from(size.as_str()));
+        return print(&rt, Way::from(word.as_str()), &roots, size, 100);
     }
-    for n in [2, 32] {
+    for size in [SMALL, LARGE] {
         for way in [Way::Week, Way::Steps, Way::Lent] {
-            print(&rt, way, &roots, n, 1)?;
+            print(&rt, way, &roots, size, 1)?;
         }
     }
     Ok(())
@@ -64,53 +83,59 @@ impl fmt::Display for Way {
     }
 }
 
-fn sized(word: &str) -> u64 {
-    match word.as_bytes() {
-        [b'2', ..] => 2,
-        _ => 32,
+// By the first digit of N.
+impl From<&str> for Size {
+    fn from(word: &str) -> Size {
+        match word.as_bytes() {
+            [b'2', ..] => SMALL,
+            _ => LARGE,
+        }
     }
 }
 
 // N and the checksum of the basin reached.
-fn print(rt: &impl Print, way: Way, roots: &Roots, n: u64, count: u64) -> io::Result<()> {
-    let b = reached(way, roots, n, count);
-    println!(rt; "{way} {n} {}", checksum::of_basin(&b))
+fn print(rt: &impl Print, way: Way, roots: &Roots, size: Size, count: u64) -> io::Result<()> {
+    let b = way.reached(roots, size, count);
+    println!(rt; "{way} {} {}", size.n, checksum::of_basin(&b))
 }
 
-// Ordinary lines, which all weeks repeat.
-fn reached(way: Way, roots: &Roots, n: u64, count: u64) -> Basin {
-    let mut chance = Chance::new();
-    let plan = Plan::chain(Choice::Ordinary, n, if n == 2 { 1 } else { 31 });
-    let mut b = calls::started(plan, &mut chance);
-    let days = weather::drawn::<64>(0, &mut chance);
-    let lines = repeated(&days);
+impl Way {
+    // Ordinary lines, which all weeks repeat.
+    fn reached(self, roots: &Roots, size: Size, count: u64) -> Basin {
+        let mut chance = Chance::new();
+        let plan = Plan::chain(Choice::Ordinary, size.n, size.m);
+        let b = calls::started(plan, &mut chance);
+        let days = weather::drawn::<64>(0, &mut chance);
+        let lines: [Line; 2048] = array::from_fn(|k| days[k % 64]);
+        let lines = lines.get(..size.lines).unwrap_or(&lines);
+        match self {
+            Way::Idle => weeks(b, count, |_| {}),
+            Way::Week => weeks(b, count, |b| {
+                week::week(b, lines);
+            }),
+            Way::Steps => weeks(b, count, |b| {
+                steps(b, &days, size.steps, |b, here| b.step(here, b.n))
+            }),
+            Way::Lent => weeks(b, count, |b| {
+                steps(b, &days, size.steps, |b, here| {
+                    b.step_with(roots, here, b.n)
+                })
+            }),
+        }
+    }
+}
+
+fn weeks<F: Fn(&mut Basin)>(start: Basin, count: u64, week: F) -> Basin
+    requires { F.IsAlwaysCallable week }
+{
+    let mut b = start;
     for _ in 0..count {
-        week(way, roots, &mut b, &days, &lines);
+        week(&mut b);
     }
     b
 }
 
-fn repeated(days: &[Line; 64]) -> [Line; 2048] {
-    let mut lines = [BLANK; 2048];
-    for (here, day) in lines.iter_mut().zip(days.iter().cycle()) {
-        *here = *day;
-    }
-    lines
-}
-
-fn week(way: Way, roots: &Roots, b: &mut Basin, days: &[Line; 64], lines: &[Line; 2048]) {
-    let (count, long) = if b.n == 2 { (1000, 2000) } else { (63, 2016) };
-    match way {
-        Way::Idle => {}
-        Way::Week => {
-            week::week(b, &lines[..long]);
-        }
-        Way::Steps => steps(b, days, count, |b, here, n| b.step(here, n)),
-        Way::Lent => steps(b, days, count, |b, here, n| b.step_with(roots, here, n)),
-    }
-}
-
-fn steps<F: Fn(&mut Basin, [Line; 32], u64) -> Result<Report, Refused>>(
+fn steps<F: Fn(&mut Basin, [Line; 32]) -> Result<Report, Refused>>(
     b: &mut Basin,
     days: &[Line; 64],
     count: u64,
@@ -119,16 +144,16 @@ fn steps<F: Fn(&mut Basin, [Line; 32], u64) -> Result<Report, Refused>>(
     requires { F.IsAlwaysCallable step }
 {
     for j in 0..count {
-        let _ = step(b, lines_of(days, j, b.n), b.n);
+        let _ = step(b, lines_of(days, j, b.n));
     }
 }
 
 // The n lines of step j.
 fn lines_of(days: &[Line; 64], j: u64, n: u64) -> [Line; 32] {
-    let mut here = [BLANK; 32];
     let at = (j.wrapping_mul(n) % 64) as usize;
-    for (k, place) in here.iter_mut().take(n as usize).enumerate() {
-        *place = days[(at + k) % 64];
-    }
-    here
+    array::from_fn(|k| if (k as u64) < n {
+        days[(at + k) % 64]
+    } else {
+        BLANK
+    })
 }
