@@ -2,12 +2,11 @@
 ghost use Rattle.std.specs.Prelude.{◌≡◌, ◌<◌, IfSome, unwrap_or};
 ghost use Rattle.subbasin.specs.Record.{word_count, words_of, of_words, first_outside, record_in, is_blank};
 
-use common::amounts;
 use common::shares::ONE;
 use curve::store::MOST_CONTENT;
 
 // The words that no step changes, L apart. Area in km², capacities in µm, shares in parts of 65,536.
-#[derive(Clone, Copy)]
+#[derive(Clone, Copy, PartialEq, Eq, Default)]
 pub struct Parameters {
     pub area: u64,
     pub k: u64,
@@ -28,7 +27,7 @@ pub struct Parameters {
 }
 
 // What waits over the sub-basin, in µm: tension water by layer, free water, interflow and ground water.
-#[derive(Clone, Copy)]
+#[derive(Clone, Copy, PartialEq, Eq, Default)]
 pub struct Contents {
     pub wu: u64,
     pub wl: u64,
@@ -39,14 +38,14 @@ pub struct Contents {
 }
 
 // Up to 15 amounts in m³ in waiting, the newest first, and the lag L in steps.
-#[derive(Clone, Copy)]
+#[derive(Clone, Copy, PartialEq, Eq, Default)]
 pub struct LagLine {
     pub lag: u64,
     pub waiting: [u64; 15],
 }
 
 // The lag line and the channel (CS) store's content in m³ complete the record.
-#[derive(Clone, Copy)]
+#[derive(Clone, Copy, PartialEq, Eq, Default)]
 pub struct SubBasin {
     pub fixed: Parameters,
     pub contents: Contents,
@@ -189,14 +188,10 @@ impl SubBasin {
         self.channel <= MOST_CONTENT && self.line.allowed()
     }
 
-    // Whether the record is all zeros. By its words: a derived `==` would be one of four structs, and nothing else asks for it.
-    #[tactic(auto, unfolding(crate::specs::Record::is_blank))]
+    // Whether it is all zeros.
     pub fn is_blank(&self) -> bool
         ensures { result ≡ is_blank self.now }
     {
-        if self.channel != 0 {
-            return false;
-        }
-        amounts::up_to(0, &self.line.waiting, 0) && amounts::up_to(0, &self.words(), 0)
+        *self == SubBasin::default()
     }
 }
