@@ -5,7 +5,7 @@ ghost use Rattle.subbasin.specs.Lag.{line_in, leaving, entered, Lagged};
 use crate::record::LagLine;
 use common::amounts;
 
-const MOST_WAITING: u64 = 1125899906842624; // 2^50
+const MOST_WAITING: u64 = 1 << 50;
 
 impl LagLine {
     // Whether no amount is above 2^50 and every unused place is zero.
@@ -37,11 +37,9 @@ impl LagLine {
         ensures { result ≡ entered self t }
     {
         let lag = self.lag;
-        let w = self.waiting;
-        let mut waiting = [
-            t, w[0], w[1], w[2], w[3], w[4], w[5], w[6], w[7], w[8], w[9], w[10], w[11], w[12],
-            w[13],
-        ];
+        let mut waiting = self.waiting;
+        waiting.copy_within(..14, 1);
+        waiting[0] = t;
         waiting[lag as usize..].fill(0);
         LagLine { lag, waiting }
     }

@@ -37,7 +37,7 @@ pub struct Contents {
     pub vg: u64,
 }
 
-// Up to 15 amounts in m³ in waiting, the newest first, and the lag L in steps.
+// Up to 15 amounts in m³ in waiting, the newest first, and the lag L in steps. All 15 places are there, as 9 speaks of the unused ones.
 #[derive(Clone, Copy, PartialEq, Eq, Default)]
 pub struct LagLine {
     pub lag: u64,
@@ -64,42 +64,67 @@ pub const NAMES: [&str; WORDS] = [
 // VI and VG: the most in the file, and the most in a basin handed in.
 pub const MOST_START: u64 = 1000000;
 
-pub const MOST_SLOW: u64 = 8589934592; // 2^33
+pub const MOST_SLOW: u64 = 1 << 33;
 
 // The record of a file's words. Lag line and CS store start empty.
 impl From<[u64; WORDS]> for SubBasin {
     ghost from_gives = { λ v s. s ≡ of_words v };
 
     fn from(v: [u64; WORDS]) -> SubBasin {
+        let [
+            area,
+            k,
+            um,
+            lm,
+            dm,
+            c,
+            bn,
+            im,
+            sm,
+            xn,
+            ki,
+            kg,
+            ci,
+            cg,
+            cs,
+            lag,
+            reach,
+            wu,
+            wl,
+            wd,
+            g,
+            vi,
+            vg,
+        ] = v;
         SubBasin {
             fixed: Parameters {
-                area: v[0],
-                k: v[1],
-                um: v[2],
-                lm: v[3],
-                dm: v[4],
-                c: v[5],
-                bn: v[6],
-                im: v[7],
-                sm: v[8],
-                xn: v[9],
-                ki: v[10],
-                kg: v[11],
-                ci: v[12],
-                cg: v[13],
-                cs: v[14],
-                reach: v[16],
+                area,
+                k,
+                um,
+                lm,
+                dm,
+                c,
+                bn,
+                im,
+                sm,
+                xn,
+                ki,
+                kg,
+                ci,
+                cg,
+                cs,
+                reach,
             },
             contents: Contents {
-                wu: v[17],
-                wl: v[18],
-                wd: v[19],
-                g: v[20],
-                vi: v[21],
-                vg: v[22],
+                wu,
+                wl,
+                wd,
+                g,
+                vi,
+                vg,
             },
             line: LagLine {
-                lag: v[15],
+                lag,
                 waiting: [0; 15],
             },
             channel: 0,
@@ -178,14 +203,13 @@ impl SubBasin {
     }
 
     // Whether 9 allows the record, with REACH up to m.
-    #[tactic(auto, using(crate::proofs::record::RecordLaws::some_number, crate::proofs::record::RecordLaws::none_number, crate::proofs::record::RecordLaws::words_fail, crate::proofs::record::RecordLaws::channel_fails, crate::proofs::record::RecordLaws::only_line))]
+    #[tactic(auto, using(crate::proofs::record::RecordLaws::record_tests))]
     pub fn allowed(&self, m: u64) -> bool
         ensures { result ≡ record_in m self.now }
     {
-        if self.first_outside(m, MOST_SLOW).is_some() {
-            return false;
-        }
-        self.channel <= MOST_CONTENT && self.line.allowed()
+        self.first_outside(m, MOST_SLOW).is_none()
+            && self.channel <= MOST_CONTENT
+            && self.line.allowed()
     }
 
     // Whether it is all zeros.

@@ -120,6 +120,8 @@ module _ (m : ℕ) (s : SubBasin) where
   only_line f h c =
       sym (rw (words_in_lem (words m most_slow s) (first_none (words m most_slow s) (sym f ∙ h)), le-leb s.channel most_stored c, and-true))
 
+pub ruleset record_tests = (some_number, none_number, words_fail, channel_fails, only_line)
+
 -- REACH apart, the limits are the same for every m
 pub record_other : (m m' : ℕ) (s : SubBasin) → RecordIn m s → s.fixed.reach ≤ m' → RecordIn m' s
 record_other m m' s h r =
