@@ -31,7 +31,7 @@ impl LagLine {
         self.waiting[(lag - 1) as usize]
     }
 
-    // The line once the amount t has entered: t and those before it, of which the lag's many wait on.
+    // The line once the amount t has entered: t and those before it, of which the lag's many wait on. By value, as document 01 has it.
     pub(crate) fn enter(self, t: u64) -> LagLine
         requires { self.lag ≤ 15 }
         ensures { result ≡ entered self t }

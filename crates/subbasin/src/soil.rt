@@ -1,5 +1,5 @@
 // Evapotranspiration, runoff and the three layers of tension water: document 01, "One sub-basin, one step". All in µm.
-ghost use Rattle.std.specs.Prelude.{◌≡◌, ◌+◌, ◌-◌, ◌≤◌, ◌<◌};
+ghost use Rattle.std.specs.Prelude.{◌≡◌, ◌+◌, ◌-◌, ◌^◌, ◌≤◌, ◌<◌};
 ghost use Rattle.subbasin.specs.Workers.{SoilIn, LayersIn};
 ghost use Rattle.subbasin.specs.Soil.{fallen, deeper, evaporated, tension, wm, mm, rb, gain, refilled, runoff};
 ghost use Rattle.subbasin.specs.Step.{layers_of};
@@ -49,7 +49,7 @@ pub struct Runoff {
 impl Layers {
     // Tension water, W.
     pub fn tension(&self) -> u64
-        requires { tension self.now ≤ 500000 }
+        requires { tension self.now < 2 ^ 64 }
         ensures { result ≡ tension self.now }
     {
         self.wu + self.wl + self.wd
