@@ -96,3 +96,6 @@ module _ (b : Basin) (number : ℕ) (pan : Float) where
           let here = inside accepted in
           let same : s ≡ sub_at b (number - 1) = e ∙ allowed_read b here.allowed (number - 1) (in_use_lem here) d in
           told wanted (rw accepted (rw (own_accepts here) at (rw (same, is) at h)))
+
+-- by which a question is judged
+pub ruleset whose_turn = (asked_nine, asked_eleven, asked_pan)

@@ -12,20 +12,16 @@ impl SubBasin {
         ensures { result ≡ capped (water self.now) }
     {
         let soil = self.fixed.area.saturating_mul(self.contents.depth());
-        let waiting = amounts::total(&self.line.waiting);
-        soil.saturating_add(waiting).saturating_add(self.channel)
+        amounts::total(&[soil, amounts::total(&self.line.waiting), self.channel])
     }
 }
 
 impl Contents {
     // The depth of all that waits over the sub-basin, in µm.
+    #[tactic(auto, unfolding(common::specs::Amounts::sum))]
     fn depth(&self) -> u64
         ensures { result ≡ capped (water_depth self.now) }
     {
-        let tension = self.wu.saturating_add(self.wl).saturating_add(self.wd);
-        tension
-            .saturating_add(self.g)
-            .saturating_add(self.vi)
-            .saturating_add(self.vg)
+        amounts::total(&[self.wu, self.wl, self.wd, self.g, self.vi, self.vg])
     }
 }

@@ -15,6 +15,17 @@ pub struct Drained {
     pub g: u64,
 }
 
+impl Parameters {
+    // The greatest point capacity of free water, MS.
+    #[tactic(auto, unfolding(crate::specs::FreeWater::ms))]
+    pub(crate) fn ms(&self) -> u64
+        requires { FreeIn self.now }
+        ensures { result ≡ ms self.now }
+    {
+        self.sm * self.xn / 16
+    }
+}
+
 impl Ground<'_> {
     // What is kept of g + r, where r of pe runs off.
     #[tactic(auto, using(crate::proofs::free_water::FreeWaterLaws::level_le), unfolding(crate::specs::FreeWater::keep))]
@@ -50,13 +61,4 @@ impl Ground<'_> {
             g: kept - ri - rg,
         }
     }
-}
-
-// MS, the greatest point capacity of free water.
-#[tactic(auto, unfolding(crate::specs::FreeWater::ms))]
-pub fn most_point(p: &Parameters) -> u64
-    requires { FreeIn p.now }
-    ensures { result ≡ ms p.now }
-{
-    p.sm * p.xn / 16
 }

@@ -9,12 +9,11 @@ ghost use Rattle.subbasin.specs.Step.{layers_of};
 ghost use Rattle.subbasin.specs.Workers.{SoilIn, LayersIn, FreeIn, soil_curve, free_curve};
 
 use crate::record::{Parameters, SubBasin};
-use crate::{free_water, soil};
 use common::shares::ONE;
 use curve::capacity::{Curve, Roots};
 
-// What else its methods ask, that net rain is at most 1,000,000 and that layers are within their capacities, ties what is handed in to
-// it: types for these would be unwrapped in every line, and made anew for every slice.
+// What else its methods ask, that net rain is at most 1,000,000 and that layers, or tension water, are within their capacities, ties what
+// is handed in to it: types for these would be unwrapped in every line, and made anew for every slice.
 #[derive(Clone, Copy)]
 pub struct Ground<'a> {
     roots: &'a Roots,
@@ -29,7 +28,7 @@ pub struct Ground<'a> {
 
 impl<'a> Ground<'a> {
     // Of a record that 9 allows.
-    #[tactic(auto, using(crate::proofs::ground::GroundLaws::soil_of, crate::proofs::ground::GroundLaws::free_of, crate::proofs::ground::GroundLaws::layers_fit, crate::proofs::ground::GroundLaws::g_fits))]
+    #[tactic(auto, using(crate::proofs::ground::GroundLaws::ground_laws))]
     pub fn of(roots: &'a Roots, s: &'a SubBasin) -> Ground<'a>
         requires { record_in s.now.fixed.reach s.now ≡ true }
         ensures words { result.p.now ≡ s.now.fixed }
@@ -41,13 +40,13 @@ impl<'a> Ground<'a> {
             roots,
             p,
             soil: Curve {
-                c: p.um + p.lm + p.dm,
-                m: soil::most_point(p),
+                c: p.wm(),
+                m: p.mm(),
                 e: p.bn,
             },
             free: Curve {
                 c: p.sm,
-                m: free_water::most_point(p),
+                m: p.ms(),
                 e: p.xn,
             },
         }

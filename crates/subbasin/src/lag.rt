@@ -5,7 +5,7 @@ ghost use Rattle.subbasin.specs.Lag.{line_in, leaving, entered, Lagged};
 use crate::record::LagLine;
 use common::amounts;
 
-const MOST_WAITING: u64 = 1125899906842624; // 2^50
+const MOST_WAITING: u64 = 1 << 50;
 
 impl LagLine {
     // Whether no amount is above 2^50 and every unused place is zero.
@@ -31,17 +31,15 @@ impl LagLine {
         self.waiting[(lag - 1) as usize]
     }
 
-    // The line once the amount t has entered: t and those before it, of which the lag's many wait on.
+    // The line once the amount t has entered: t and those before it, of which the lag's many wait on. By value, as document 01 has it.
     pub(crate) fn enter(self, t: u64) -> LagLine
         requires { self.lag ≤ 15 }
         ensures { result ≡ entered self t }
     {
         let lag = self.lag;
-        let w = self.waiting;
-        let mut waiting = [
-            t, w[0], w[1], w[2], w[3], w[4], w[5], w[6], w[7], w[8], w[9], w[10], w[11], w[12],
-            w[13],
-        ];
+        let mut waiting = self.waiting;
+        waiting.copy_within(..14, 1);
+        waiting[0] = t;
         waiting[lag as usize..].fill(0);
         LagLine { lag, waiting }
     }

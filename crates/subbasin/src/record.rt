@@ -2,12 +2,11 @@
 ghost use Rattle.std.specs.Prelude.{◌≡◌, ◌<◌, IfSome, unwrap_or};
 ghost use Rattle.subbasin.specs.Record.{word_count, words_of, of_words, first_outside, record_in, is_blank};
 
-use common::amounts;
 use common::shares::ONE;
 use curve::store::MOST_CONTENT;
 
 // The words that no step changes, L apart. Area in km², capacities in µm, shares in parts of 65,536.
-#[derive(Clone, Copy)]
+#[derive(Clone, Copy, PartialEq, Eq, Default)]
 pub struct Parameters {
     pub area: u64,
     pub k: u64,
@@ -28,7 +27,7 @@ pub struct Parameters {
 }
 
 // What waits over the sub-basin, in µm: tension water by layer, free water, interflow and ground water.
-#[derive(Clone, Copy)]
+#[derive(Clone, Copy, PartialEq, Eq, Default)]
 pub struct Contents {
     pub wu: u64,
     pub wl: u64,
@@ -38,15 +37,15 @@ pub struct Contents {
     pub vg: u64,
 }
 
-// Up to 15 amounts in m³ in waiting, the newest first, and the lag L in steps.
-#[derive(Clone, Copy)]
+// Up to 15 amounts in m³ in waiting, the newest first, and the lag L in steps. All 15 places are there, as 9 speaks of the unused ones.
+#[derive(Clone, Copy, PartialEq, Eq, Default)]
 pub struct LagLine {
     pub lag: u64,
     pub waiting: [u64; 15],
 }
 
 // The lag line and the channel (CS) store's content in m³ complete the record.
-#[derive(Clone, Copy)]
+#[derive(Clone, Copy, PartialEq, Eq, Default)]
 pub struct SubBasin {
     pub fixed: Parameters,
     pub contents: Contents,
@@ -65,42 +64,67 @@ pub const NAMES: [&str; WORDS] = [
 // VI and VG: the most in the file, and the most in a basin handed in.
 pub const MOST_START: u64 = 1000000;
 
-pub const MOST_SLOW: u64 = 8589934592; // 2^33
+pub const MOST_SLOW: u64 = 1 << 33;
 
 // The record of a file's words. Lag line and CS store start empty.
 impl From<[u64; WORDS]> for SubBasin {
     ghost from_gives = { λ v s. s ≡ of_words v };
 
     fn from(v: [u64; WORDS]) -> SubBasin {
+        let [
+            area,
+            k,
+            um,
+            lm,
+            dm,
+            c,
+            bn,
+            im,
+            sm,
+            xn,
+            ki,
+            kg,
+            ci,
+            cg,
+            cs,
+            lag,
+            reach,
+            wu,
+            wl,
+            wd,
+            g,
+            vi,
+            vg,
+        ] = v;
         SubBasin {
             fixed: Parameters {
-                area: v[0],
-                k: v[1],
-                um: v[2],
-                lm: v[3],
-                dm: v[4],
-                c: v[5],
-                bn: v[6],
-                im: v[7],
-                sm: v[8],
-                xn: v[9],
-                ki: v[10],
-                kg: v[11],
-                ci: v[12],
-                cg: v[13],
-                cs: v[14],
-                reach: v[16],
+                area,
+                k,
+                um,
+                lm,
+                dm,
+                c,
+                bn,
+                im,
+                sm,
+                xn,
+                ki,
+                kg,
+                ci,
+                cg,
+                cs,
+                reach,
             },
             contents: Contents {
-                wu: v[17],
-                wl: v[18],
-                wd: v[19],
-                g: v[20],
-                vi: v[21],
-                vg: v[22],
+                wu,
+                wl,
+                wd,
+                g,
+                vi,
+                vg,
             },
             line: LagLine {
-                lag: v[15],
+                lag,
                 waiting: [0; 15],
             },
             channel: 0,
@@ -179,24 +203,19 @@ impl SubBasin {
     }
 
     // Whether 9 allows the record, with REACH up to m.
-    #[tactic(auto, using(crate::proofs::record::RecordLaws::some_number, crate::proofs::record::RecordLaws::none_number, crate::proofs::record::RecordLaws::words_fail, crate::proofs::record::RecordLaws::channel_fails, crate::proofs::record::RecordLaws::only_line))]
+    #[tactic(auto, using(crate::proofs::record::RecordLaws::record_tests))]
     pub fn allowed(&self, m: u64) -> bool
         ensures { result ≡ record_in m self.now }
     {
-        if self.first_outside(m, MOST_SLOW).is_some() {
-            return false;
-        }
-        self.channel <= MOST_CONTENT && self.line.allowed()
+        self.first_outside(m, MOST_SLOW).is_none()
+            && self.channel <= MOST_CONTENT
+            && self.line.allowed()
     }
 
-    // Whether the record is all zeros. By its words: a derived `==` would be one of four structs, and nothing else asks for it.
-    #[tactic(auto, unfolding(crate::specs::Record::is_blank))]
+    // Whether it is all zeros.
     pub fn is_blank(&self) -> bool
         ensures { result ≡ is_blank self.now }
     {
-        if self.channel != 0 {
-            return false;
-        }
-        amounts::up_to(0, &self.line.waiting, 0) && amounts::up_to(0, &self.words(), 0)
+        *self == SubBasin::default()
     }
 }

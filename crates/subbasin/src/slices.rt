@@ -35,7 +35,7 @@ impl Ground<'_> {
     }
 
     // One slice.
-    #[tactic(auto, using(crate::proofs::soil::SoilLaws::runs, crate::proofs::free_water::FreeWaterLaws::keep_none, crate::proofs::free_water::FreeWaterLaws::keeps), unfolding(crate::specs::Slices::after_slice))]
+    #[tactic(auto, using(crate::proofs::slices::SlicesLaws::slice_laws), unfolding(crate::specs::Slices::after_slice))]
     fn take_slice(&self, s: Sliced, pe: u64) -> Sliced
         requires { RoomFor self.now.p.now pe s × (0 < pe) }
         ensures { result ≡ after_slice self.now.p.now pe s }
@@ -76,7 +76,7 @@ impl Sliced {
     }
 }
 
-// How many slices pe is cut into.
+// How many slices pe is cut into. By `div_ceil`, which divides twice, a step took 1 % more instructions.
 #[tactic(auto, unfolding(crate::specs::Slices::slices))]
 fn count(pe: u64) -> u64
     requires { pe ≤ 1000000 }

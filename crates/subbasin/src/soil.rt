@@ -1,5 +1,5 @@
 // Evapotranspiration, runoff and the three layers of tension water: document 01, "One sub-basin, one step". All in µm.
-ghost use Rattle.std.specs.Prelude.{◌≡◌, ◌+◌, ◌-◌, ◌≤◌, ◌<◌};
+ghost use Rattle.std.specs.Prelude.{◌≡◌, ◌+◌, ◌-◌, ◌^◌, ◌≤◌, ◌<◌};
 ghost use Rattle.subbasin.specs.Workers.{SoilIn, LayersIn};
 ghost use Rattle.subbasin.specs.Soil.{fallen, deeper, evaporated, tension, wm, mm, rb, gain, refilled, runoff};
 ghost use Rattle.subbasin.specs.Step.{layers_of};
@@ -46,8 +46,65 @@ pub struct Runoff {
     pub layers: Layers,
 }
 
+impl Layers {
+    // Tension water, W.
+    pub fn tension(&self) -> u64
+        requires { tension self.now < 2 ^ 64 }
+        ensures { result ≡ tension self.now }
+    {
+        self.wu + self.wl + self.wd
+    }
+
+    // What has been drawn from the layers, u, el and ed, and what they then hold; there is no net rain.
+    fn fall(self, rain: u64, u: u64, el: u64, ed: u64) -> Evaporated
+        requires { (u ≤ self.wu) × (el ≤ self.wl) × (ed ≤ self.wd) × (rain + u ≤ 200000) }
+        ensures { result ≡ fallen self rain u el ed }
+    {
+        Evaporated {
+            eu: rain + u,
+            el,
+            ed,
+            pe: 0,
+            layers: Layers {
+                wu: self.wu - u,
+                wl: self.wl - el,
+                wd: self.wd - ed,
+            },
+        }
+    }
+}
+
+impl Parameters {
+    // What all layers hold, WM.
+    pub(crate) fn wm(&self) -> u64
+        requires { SoilIn self.now }
+        ensures { result ≡ wm self.now }
+    {
+        self.um + self.lm + self.dm
+    }
+
+    // The greatest point capacity of tension water, MM.
+    #[tactic(auto, unfolding(crate::specs::Soil::mm))]
+    pub(crate) fn mm(&self) -> u64
+        requires { SoilIn self.now }
+        ensures { result ≡ mm self.now }
+    {
+        self.wm() * self.bn * ONE / (16 * (ONE - self.im))
+    }
+
+    // Runoff from the impervious part, RB.
+    #[tactic(auto, unfolding(crate::specs::Soil::rb))]
+    pub(crate) fn rb(&self, pe: u64) -> u64
+        requires { SoilIn self.now × (pe ≤ 1000000) }
+        ensures { result ≡ rb self.now pe }
+    {
+        self.im * pe / ONE
+    }
+}
+
 impl Ground<'_> {
     // EP is e: from rain where it is enough, and otherwise from the layers, the upper one first.
+    #[tactic(auto, unfolding(crate::specs::Soil::evaporated))]
     pub fn evaporate(&self, w: Layers, rain: u64, e: u64) -> Evaporated
         requires { LayersIn self.now.p.now w × (e ≤ 200000) }
         ensures answered { result ≡ evaporated self.now.p.now w rain e }
@@ -72,17 +129,19 @@ impl Ground<'_> {
     #[tactic(auto, unfolding(crate::specs::Soil::deeper))]
     fn draw_deeper(&self, w: Layers, rain: u64, u: u64, d: u64) -> Evaporated
         requires { LayersIn self.now.p.now w × (d ≤ 200000) × (u ≤ w.wu) × (rain + u ≤ 200000) }
-        ensures { result ≡ deeper self.now.p.now w rain u d }
+        ensures answered { result ≡ deeper self.now.p.now w rain u d }
+        ensures inside { LayersIn self.now.p.now result.layers }
+        ensures no_rain_left { result.pe ≡ 0 }
     {
         let p = self.p;
         if p.c * p.lm <= w.wl * ONE {
             let el = w.wl.min(d * w.wl / p.lm);
-            return fall(w, rain, u, el, 0);
+            return w.fall(rain, u, el, 0);
         }
         let q = p.c * d / ONE;
         let el = w.wl.min(q);
         let ed = w.wd.min(q - el);
-        fall(w, rain, u, el, ed)
+        w.fall(rain, u, el, ed)
     }
 
     // Runoff from the impervious part, and from what the soil can't hold of the rest of the net rain.
@@ -91,8 +150,8 @@ impl Ground<'_> {
         requires { LayersIn self.now.p.now w × (0 < pe) × (pe ≤ 1000000) }
         ensures { result ≡ runoff self.now.p.now w pe }
     {
-        let rb = self.p.im * pe / ONE;
-        let gained = self.gain_of(w.wu + w.wl + w.wd, pe);
+        let rb = self.p.rb(pe);
+        let gained = self.gain_of(w.tension(), pe);
         Runoff {
             rb,
             r: pe - rb - gained,
@@ -107,7 +166,7 @@ impl Ground<'_> {
         ensures { let p = self.now.p.now in result ≡ gain p w pe (pe - rb p pe) }
     {
         let top = self.soil_top(w, pe);
-        (pe - self.p.im * pe / ONE).min(top - w)
+        (pe - self.p.rb(pe)).min(top - w)
     }
 
     // The gain fills the upper layer, then the lower, then the deep one.
@@ -124,30 +183,4 @@ impl Ground<'_> {
             wd: w.wd + (gained - upper - lower),
         }
     }
-}
-
-fn fall(w: Layers, rain: u64, u: u64, el: u64, ed: u64) -> Evaporated
-    requires { (u ≤ w.wu) × (el ≤ w.wl) × (ed ≤ w.wd) × (rain + u ≤ 200000) }
-    ensures { result ≡ fallen w rain u el ed }
-{
-    Evaporated {
-        eu: rain + u,
-        el,
-        ed,
-        pe: 0,
-        layers: Layers {
-            wu: w.wu - u,
-            wl: w.wl - el,
-            wd: w.wd - ed,
-        },
-    }
-}
-
-// MM, the greatest point capacity of tension water.
-#[tactic(auto, unfolding(crate::specs::Soil::mm))]
-pub fn most_point(p: &Parameters) -> u64
-    requires { SoilIn p.now }
-    ensures { result ≡ mm p.now }
-{
-    (p.um + p.lm + p.dm) * p.bn * ONE / (16 * (ONE - p.im))
 }

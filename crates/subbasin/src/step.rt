@@ -3,20 +3,17 @@ ghost use Rattle.std.specs.Prelude.{◌≡◌, true, ◌+◌, ◌≤◌};
 ghost use Rattle.common.specs.Shares.{one};
 ghost use Rattle.curve.specs.Store.{most_inflow, most_content};
 ghost use Rattle.subbasin.specs.Record.{record_in};
-ghost use Rattle.subbasin.specs.FreeWater.{drained};
-ghost use Rattle.subbasin.specs.Slices.{sliced};
-ghost use Rattle.subbasin.specs.Step.{holds, let_go, evaporated_of, with_drained, as_stepped, call_in, sub_call, AsBefore};
+ghost use Rattle.subbasin.specs.Step.{holds, let_go, with_drained, stepped, as_stepped, call_in, sub_call, AsBefore};
 
 use crate::free_water::Drained;
 use crate::ground::Ground;
-use crate::record::SubBasin;
+use crate::record::{Contents, SubBasin};
 use crate::slices::Sliced;
 use crate::soil::Evaporated;
 use common::refusal::Refusal;
 use common::shares::ONE;
 use common::weather::{MOST_PAN, MOST_RAIN, Weather};
-use curve::capacity;
-use curve::capacity::Roots;
+use curve::capacity::{self, Roots};
 use curve::store::Store;
 
 // What flows in a step that is accepted: depths in µm, q in m³.
@@ -33,16 +30,23 @@ pub struct Flows {
     pub q: u64,
 }
 
+// What the stages of soil and free water gave: evapotranspiration, net rain in slices, and what drained.
+#[derive(Drop)]
+struct Stages {
+    ev: Evaporated,
+    sl: Sliced,
+    dr: Drained,
+    ghost direct_most: { sl.rs + sl.rb ≤ 1100000 },
+    ghost slow_most: { dr.ri + dr.rg ≤ 100000 },
+}
+
 impl SubBasin {
     // Whether a step under this weather is accepted.
     #[tactic(auto, unfolding(crate::specs::Step::call_in))]
     pub(crate) fn accepts(&self, weather: Weather) -> bool
         ensures { result ≡ call_in self.now weather }
     {
-        if MOST_RAIN < weather.rain {
-            return false;
-        }
-        weather.pan <= MOST_PAN && self.allowed(self.fixed.reach)
+        weather.rain <= MOST_RAIN && weather.pan <= MOST_PAN && self.allowed(self.fixed.reach)
     }
 
     // One step under the weather of a line. A step that is refused leaves the record as it was.
@@ -56,50 +60,49 @@ impl SubBasin {
 
     // The same with a table of roots that is lent (curve::capacity), for whoever takes many steps. `step` is this with the printed table: a
     // host of few steps needs no table.
-    #[tactic(auto, using(crate::proofs::step::CallLaws::called, crate::proofs::step::StageLaws::chained), unfolding(crate::specs::Step::sub_call))]
+    #[tactic(auto, using(crate::proofs::step::CallLaws::called), unfolding(crate::specs::Step::sub_call))]
     pub fn step_with(&mut self, roots: &Roots, weather: Weather) -> Result<Flows, Refusal>
         ensures { as_stepped self.new result ≡ sub_call self.old weather }
     {
         if !self.accepts(weather) {
             return Err(Refusal::OutOfRange);
         }
-        let (ev, sl, dr) = self.rain_on(roots, weather);
-        Ok(self.route(ev, sl, dr))
+        let stages = self.rain_on(roots, weather);
+        Ok(self.route(stages))
     }
 
-    // The stages of soil and free water in order: evapotranspiration, net rain in slices, and what drains.
-    #[tactic(auto, using(crate::proofs::step::CallLaws::called))]
-    fn rain_on(&self, roots: &Roots, weather: Weather) -> (Evaporated, Sliced, Drained)
+    // The stages of soil and free water, in order.
+    #[tactic(auto, using(crate::proofs::step::CallLaws::called, crate::proofs::step::StageLaws::chained))]
+    fn rain_on(&self, roots: &Roots, weather: Weather) -> Stages
         requires { call_in self.now weather ≡ true }
-        ensures evaporates { result.0 ≡ evaporated_of self.now weather }
-        ensures slices { result.1 ≡ sliced self.now.fixed result.0.layers self.now.contents.g result.0.pe }
-        ensures drains { result.2 ≡ drained self.now.fixed result.1.kept }
-        ensures direct_most { result.1.rs + result.1.rb ≤ 1100000 }
-        ensures slow_most { result.2.ri + result.2.rg ≤ 100000 }
+        ensures { with_drained self.now result.ev result.sl result.dr ≡ stepped self.now weather }
     {
         let ground = Ground::of(roots, self);
         let ev = ground.evaporate(self.contents.into(), weather.rain, ground.ep(weather.pan));
         let sl = ground.take_slices(ev.layers, self.contents.g, ev.pe);
         let dr = ground.drain(sl.kept);
-        (ev, sl, dr)
+        Stages { ev, sl, dr }
     }
 
     // The slow stores, the lag line and the channel.
-    #[tactic(auto, using(crate::proofs::step::RouteLaws::route_in, crate::proofs::step::RouteLaws::t_fits, crate::proofs::step::RouteLaws::leaving_fits))]
-    fn route(&mut self, ev: Evaporated, sl: Sliced, dr: Drained) -> Flows
-        requires { (record_in self.old.fixed.reach self.old ≡ true) × (sl.rs + sl.rb ≤ 1100000) × (dr.ri + dr.rg ≤ 100000) }
-        ensures { as_stepped self.new (Ok result) ≡ with_drained self.old ev sl dr }
+    #[tactic(auto, using(crate::proofs::step::RouteLaws::route_laws))]
+    fn route(&mut self, stages: Stages) -> Flows
+        requires { record_in self.old.fixed.reach self.old ≡ true }
+        ensures { as_stepped self.new (Ok result) ≡ with_drained self.old stages.ev stages.sl stages.dr }
     {
+        let Stages { ev, sl, dr } = stages;
         let ti = pass(self.fixed.ci, &mut self.contents.vi, dr.ri);
         let tg = pass(self.fixed.cg, &mut self.contents.vg, dr.rg);
         let t = (sl.rs + sl.rb + ti + tg) * self.fixed.area;
         let q = pass(self.fixed.cs, &mut self.channel, self.line.leave(t));
         self.line = self.line.enter(t);
-        let layers = sl.layers;
-        self.contents.wu = layers.wu;
-        self.contents.wl = layers.wl;
-        self.contents.wd = layers.wd;
-        self.contents.g = dr.g;
+        self.contents = Contents {
+            wu: sl.layers.wu,
+            wl: sl.layers.wl,
+            wd: sl.layers.wd,
+            g: dr.g,
+            ..self.contents
+        };
         Flows {
             eu: ev.eu,
             el: ev.el,

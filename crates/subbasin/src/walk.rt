@@ -43,7 +43,7 @@ impl Walk {
             pe,
             slices,
             whole,
-            w: soak(ground, whole, pe % SLICE),
+            w: ground.soak(whole, pe % SLICE),
         }
     }
 
@@ -54,20 +54,22 @@ impl Walk {
         ensures { result ≡ climbed ground.now.p.now self.now.whole self.now.slices slices }
     {
         if self.slices < slices {
-            return soak(ground, self.whole, SLICE);
+            return ground.soak(self.whole, SLICE);
         }
         self.whole
     }
 }
 
-// The tension water w after a slice of pe.
-#[tactic(auto, using(crate::proofs::walk::WalkLaws::soaked_none, crate::proofs::walk::WalkLaws::soaked_in), unfolding(crate::specs::Workers::soaked))]
-fn soak(ground: &Ground, w: u64, pe: u64) -> u64
-    requires { (w ≤ wm ground.now.p.now) × (pe ≤ most_slice) }
-    ensures { result ≡ soaked ground.now.p.now pe w }
-{
-    if pe == 0 {
-        return w;
+impl Ground<'_> {
+    // The tension water w after a slice of pe.
+    #[tactic(auto, using(crate::proofs::walk::WalkLaws::soaked_none, crate::proofs::walk::WalkLaws::soaked_in), unfolding(crate::specs::Workers::soaked))]
+    fn soak(&self, w: u64, pe: u64) -> u64
+        requires { (w ≤ wm self.now.p.now) × (pe ≤ most_slice) }
+        ensures { result ≡ soaked self.now.p.now pe w }
+    {
+        if pe == 0 {
+            return w;
+        }
+        w + self.gain_of(w, pe)
     }
-    w + ground.gain_of(w, pe)
 }

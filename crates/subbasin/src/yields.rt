@@ -6,6 +6,7 @@ ghost use Rattle.subbasin.specs.Workers.{unsoaked};
 
 use crate::ground::Ground;
 use crate::record::SubBasin;
+use crate::soil::Layers;
 use crate::walk::Walk;
 use common::refusal::Refusal;
 use common::weather::Weather;
@@ -25,22 +26,24 @@ impl SubBasin {
         }
         let roots = capacity::printed_roots();
         let ground = Ground::of(&roots, self);
-        let c = &self.contents;
-        Ok(search(&ground, c.wu + c.wl + c.wd, ground.ep(pan), wanted))
+        let w = Layers::from(self.contents).tension();
+        Ok(ground.search(w, ground.ep(pan), wanted))
     }
 }
 
-// The 1,001 rains in turn on tension water w where EP is e, up to the first that does.
-fn search(ground: &Ground, w: u64, e: u64, wanted: u64) -> Option<u64>
-    requires { w ≤ wm ground.now.p.now }
-    ensures { Answers 0 (unsoaked ground.now.p.now w e) wanted (as_answer (Ok result)) }
-{
-    let mut walk = Walk::begin(w);
-    for k in 0..=MOST_MM {
-        walk = walk.go_on(ground, e, k);
-        if wanted <= walk.pe + w - walk.w {
-            return Some(k);
+impl Ground<'_> {
+    // The 1,001 rains in turn on tension water w where EP is e, up to the first that does.
+    fn search(&self, w: u64, e: u64, wanted: u64) -> Option<u64>
+        requires { w ≤ wm self.now.p.now }
+        ensures { Answers 0 (unsoaked self.now.p.now w e) wanted (as_answer (Ok result)) }
+    {
+        let mut walk = Walk::begin(w);
+        for k in 0..=MOST_MM {
+            walk = walk.go_on(self, e, k);
+            if wanted <= walk.pe + w - walk.w {
+                return Some(k);
+            }
         }
+        None
     }
-    None
 }

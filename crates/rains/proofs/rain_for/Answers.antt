@@ -2,22 +2,13 @@
 use Rattle.std.proofs.Common.{◌≡◌, refl, ap, Err, rules, arith}
 use Rattle.common.proofs.Refusals.{number_some}
 use Rattle.subbasin.specs.Yields.{as_answer}
-use Rattle.rains.proofs.QuestionLaws.{question_refused, number_in, question_answered}
+use Rattle.rains.proofs.QuestionLaws.{question_refused, question_answered}
 use Rattle.rains.proofs.rain_for.Goals as goal
 
 pub returns-in_err-depth : goal.returns-in_err-depth
 returns-in_err-depth c =
     let e : c.from_residual.result ≡ Err c.in_err-depth.field-0.0 = search rules in
     question_refused _ _ _ c.in_err-depth.ensures _ (λ z. omega (arith, z, number_some c.in_err-depth.field-0.0)) (ap as_answer e)
-
-pub overflow_sub-number : goal.overflow_sub-number
-overflow_sub-number c = (number_in _ _ _ c.in_ok-depth.ensures refl).0
-
-pub offset_bounds-b-number : goal.offset_bounds-b-number
-offset_bounds-b-number c = omega (arith, number_in _ _ _ c.in_ok-depth.ensures refl)
-
-pub bounds-b-number : goal.bounds-b-number
-bounds-b-number c = omega (arith, number_in _ _ _ c.in_ok-depth.ensures refl)
 
 pub returns : goal.returns
 returns c = question_answered _ _ _ c.in_ok-depth.ensures _ _ refl refl c.rain_for.ensures

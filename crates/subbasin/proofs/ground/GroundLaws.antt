@@ -31,6 +31,8 @@ module _ (s : SubBasin) (allowed : record_in s.fixed.reach s ≡ true) where
   pub g_fits : s.contents.g ≤ s.fixed.sm
   g_fits = g_in _ _ s (record_limits _ _ allowed).in_words
 
+pub ruleset ground_laws = (soil_of, free_of, layers_fit, g_fits)
+
 -- the curves are inside the limits of a curve
 pub soil_curve_in : (p : Parameters) {k : Curve} → SoilIn p → k ≡ soil_curve p → curve_in k.c k.m k.e ≡ true
 soil_curve_in p soil is = rw is (curve_in_lem (wm p) (mm p) p.bn (tension_curve p soil))

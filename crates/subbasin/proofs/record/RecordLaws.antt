@@ -1,21 +1,24 @@
 -- What the limits of a record say, both ways. Assumes nothing.
-use mathlib.Core.Path.{◌≡◌, refl, sym, ap, ◌∙◌}
+use mathlib.Core.Path.{◌≡◌, refl, sym, ap, ap₂, ◌∙◌}
 use mathlib.Core.Bool.{Bool, true, false, cond, not, ◌&&◌, ◌||◌, and-true, and-false, true≢false}
 use mathlib.Core.List.{List, [], ◌∷◌}
 use Rattle.std.specs.Prelude.{Option, Some, None, IfSome, unwrap_or}
+use Rattle.std.specs.Array.{AllOfLen}
+use Rattle.std.specs.Cmp.{both_ways}
 use Rattle.std.specs.List.{position, position_or_len}
 use Rattle.std.specs.Option.{is_some}
-use Prim.Native.Nat.{ℕ, ◌≤◌, ◌<◌}
+use Prim.Native.Nat.{ℕ, suc, ◌≤◌, ◌<◌}
 use native.Mathlib.Decide.{dec_le}
 use native.Mathlib.Omega.{arith}
-use lib.Dec.{leb, ltb}
-use lib.ListN.{length, drop}
+use lib.Dec.{eqb, leb, ltb}
+use lib.Pointwise.{pointwise, bytes_decides}
+use lib.ListN.{length, get_or, drop, replicate}
 use lib.Seq.{take_all}
-use borrow.Author.Tests.{le-leb, lt-leb, leb-true, le-ltb, lt-ltb, ltb-false}
+use borrow.Author.Tests.{eqb-true, le-leb, lt-leb, leb-true, le-ltb, lt-ltb, ltb-false}
 use Rattle.common.specs.Limits.{within, Word, words_in, first_out}
 use Rattle.common.specs.Amounts.{all_up_to}
 use Rattle.common.proofs.Limits.{both, parts, refuted, Within, words_limits, words_in_lem, within_join, first_none, first_all, first_le}
-use Rattle.common.proofs.amounts.AmountLaws.{UpTo, all_limits, all_in, listed_take}
+use Rattle.common.proofs.amounts.AmountLaws.{UpTo, all_limits, all_in, listed_take, up_to_zeros}
 use Rattle.subbasin.specs.declared.record.Parameters.{Parameters}
 use Rattle.subbasin.specs.declared.record.Contents.{Contents}
 use Rattle.subbasin.specs.declared.record.SubBasin.{SubBasin}
@@ -117,6 +120,8 @@ module _ (m : ℕ) (s : SubBasin) where
   only_line f h c =
       sym (rw (words_in_lem (words m most_slow s) (first_none (words m most_slow s) (sym f ∙ h)), le-leb s.channel most_stored c, and-true))
 
+pub ruleset record_tests = (some_number, none_number, words_fail, channel_fails, only_line)
+
 -- REACH apart, the limits are the same for every m
 pub record_other : (m m' : ℕ) (s : SubBasin) → RecordIn m s → s.fixed.reach ≤ m' → RecordIn m' s
 record_other m m' s h r =
@@ -142,6 +147,81 @@ words_with m m' v v' s s' h f l r c = within_join 17 (words m' v' s') (rw (f, l)
 pub blank_blank : is_blank blank_sub ≡ true
 unfolding is_blank all_up_to
 blank_blank = refl
+
+zeros_are : (xs : List ℕ) → UpTo 0 xs → xs ≡ replicate (length xs) 0
+zeros_are [] h = refl
+zeros_are (x ∷ xs) h = let z : x ≡ 0 = omega (arith, h.0) in rw z (ap (λ (ys : List ℕ). 0 ∷ ys) (zeros_are xs h.1))
+
+zeros_by : (xs : List ℕ) → ((i : ℕ) (d : ℕ) → i < length xs → get_or xs i d ≡ 0) → UpTo 0 xs
+zeros_by [] h = tt
+zeros_by (x ∷ xs) h = (omega (arith, h 0 0 (omega arith)), zeros_by xs (λ i d l. h (suc i) d (omega (arith, l))))
+
+blank_is : (s : SubBasin) → length s.line.waiting ≡ 15 → UpTo 0 (words_of s) → UpTo 0 s.line.waiting → s.channel ≡ 0 → s ≡ blank_sub
+blank_is s long h k c =
+    let waits : s.line.waiting ≡ replicate 15 0 = zeros_are s.line.waiting k ∙ ap (λ (n : ℕ). replicate n 0) long in
+    let whole : s ≡ of_words (words_of s) = ap₂ (λ (ws : List ℕ) (x : ℕ). record { fixed = s.fixed; contents = s.contents; line = record { lag = s.line.lag; waiting = ws }; channel = x }) waits c in
+    whole ∙ ap of_words (zeros_are (words_of s) h)
+
+-- words that are zero, one after the other, as a derived Default and a derived == have them
+abbrev pub Zeros : List ℕ → Type 0
+Zeros [] = Unit {0}
+Zeros (x ∷ []) = x ≡ 0
+Zeros (x ∷ y ∷ ys) = (x ≡ 0) × Zeros (y ∷ ys)
+
+abbrev pub zeros : List ℕ → Bool
+zeros [] = true
+zeros (x ∷ []) = eqb x 0
+zeros (x ∷ y ∷ ys) = eqb x 0 && zeros (y ∷ ys)
+
+abbrev pub words_fixed : Parameters → List ℕ
+words_fixed p = p.area ∷ p.k ∷ p.um ∷ p.lm ∷ p.dm ∷ p.c ∷ p.bn ∷ p.im ∷ p.sm ∷ p.xn ∷ p.ki ∷ p.kg ∷ p.ci ∷ p.cg ∷ p.cs ∷ p.reach ∷ []
+
+abbrev pub words_held : Contents → List ℕ
+words_held w = w.wu ∷ w.wl ∷ w.wd ∷ w.g ∷ w.vi ∷ w.vg ∷ []
+
+-- what the derived Default makes
+abbrev pub IsDefault : SubBasin → Type 0
+IsDefault s =
+    Zeros (words_fixed s.fixed)
+    × (Zeros (words_held s.contents) × (((s.line.lag ≡ 0) × AllOfLen (λ x. x ≡ 0) s.line.waiting 15) × (s.channel ≡ 0)))
+
+pub default_blank : (s : SubBasin) → IsDefault s → s ≡ blank_sub
+default_blank s h =
+    let waits = h.1.1.0.1 in
+    blank_is s waits.long (omega arith) (zeros_by s.line.waiting (λ i d l. waits.at i d (omega (arith, l, waits.long)))) h.1.1.1
+
+zeros_limits : (xs : List ℕ) → zeros xs ≡ true → UpTo 0 xs
+zeros_limits [] t = tt
+zeros_limits (x ∷ []) t = (omega (arith, eqb-true x 0 t), tt)
+zeros_limits (x ∷ y ∷ ys) t = let p = parts (eqb x 0) (zeros (y ∷ ys)) t in (omega (arith, eqb-true x 0 p.0), zeros_limits (y ∷ ys) p.1)
+
+-- and its comparison with a record
+abbrev pub is_zero : SubBasin → Bool
+is_zero s =
+    zeros (words_fixed s.fixed)
+    && (zeros (words_held s.contents) && ((eqb s.line.lag 0 && pointwise eqb s.line.waiting (replicate 15 0)) && eqb s.channel 0))
+
+module _ (s : SubBasin) (long : length s.line.waiting ≡ 15) where
+  zero_blank : is_zero s ≡ true → s ≡ blank_sub
+  zero_blank t =
+      let a = parts (zeros (words_fixed s.fixed)) _ t in
+      let b = parts (zeros (words_held s.contents)) _ a.1 in
+      let c = parts _ (eqb s.channel 0) b.1 in
+      let d = parts (eqb s.line.lag 0) _ c.0 in
+      let fixed = zeros_limits (words_fixed s.fixed) a.0 in
+      let held = zeros_limits (words_held s.contents) b.0 in
+      let waits : s.line.waiting ≡ replicate 15 0 = (bytes_decides s.line.waiting (replicate 15 0)).0 d.1 in
+      blank_is s long (omega (arith, eqb-true s.line.lag 0 d.0)) (rw waits (up_to_zeros 0 15)) (eqb-true s.channel 0 c.1)
+
+  limits_blank : is_blank s ≡ true → s ≡ blank_sub
+  unfolding is_blank
+  limits_blank t =
+      let a = parts (all_up_to 0 s.line.waiting && eqb s.channel 0) (all_up_to 0 (words_of s)) t in
+      let b = parts (all_up_to 0 s.line.waiting) (eqb s.channel 0) a.0 in
+      blank_is s long (all_limits 0 (words_of s) a.1) (all_limits 0 s.line.waiting b.0) (eqb-true s.channel 0 b.1)
+
+  pub zero_is_blank : is_zero s ≡ is_blank s
+  zero_is_blank = both_ways (is_zero s) (is_blank s) (λ t. rw (zero_blank t) blank_blank) (λ t. rw (limits_blank t) refl)
 
 -- "An accepted load holds exactly the file's words"
 pub words_read_back : (v : List ℕ) → length v ≡ word_count → words_of (of_words v) ≡ v

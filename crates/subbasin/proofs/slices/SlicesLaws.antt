@@ -15,7 +15,7 @@ use Rattle.subbasin.specs.Soil.{tension, runoff}
 use Rattle.subbasin.specs.FreeWater.{keep}
 use Rattle.subbasin.specs.Slices.{most_slice, slices, slice, no_slice, after_slice, sliced, unsliced}
 use Rattle.subbasin.proofs.soil.SoilLaws.{Runs, runs}
-use Rattle.subbasin.proofs.free_water.FreeWaterLaws.{Keeps, keeps}
+use Rattle.subbasin.proofs.free_water.FreeWaterLaws.{Keeps, keep_none, keeps}
 
 -- Of PE, `fell` has fallen on the layers w and the free water g: runoff and what the layers took are that, RS and what is kept are G and R.
 pub record Falls (p : Parameters) (w : Layers) (g fell : ℕ) (s : Sliced) : Type 0 where
@@ -75,6 +75,9 @@ module _ (p : Parameters) (w : Layers) (g : ℕ) (soil_in : SoilIn p) (fits : La
   pub sliced_falls : (pe : ℕ) → Falls p w g pe (sliced p w g pe)
   unfolding sliced
   sliced_falls pe = rw (below_all pe) at (falls pe (slices pe))
+
+-- what a slice asks of its stages
+pub ruleset slice_laws = (runs, keep_none, keeps)
 
 -- no net rain, no slice
 pub sliced_none : (p : Parameters) (w : Layers) (g : ℕ) → sliced p w g 0 ≡ no_slice w g

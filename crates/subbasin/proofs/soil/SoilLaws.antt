@@ -138,12 +138,9 @@ pub record Runs (p : Parameters) (w : Layers) (pe : ℕ) (ro : Runoff) : Type 0 
   pub most : ro.rb + ro.r ≤ pe
   pub inside : LayersIn p ro.layers
 
-pub impervious_le : (p : Parameters) (pe : ℕ) → SoilIn p → p.im * pe / one ≤ pe
-impervious_le p pe soil = share_le p.im pe (omega arith)
-
 rb_most : (p : Parameters) (pe : ℕ) → SoilIn p → rb p pe ≤ pe
 unfolding rb
-rb_most p pe soil = impervious_le p pe soil
+rb_most p pe soil = share_le p.im pe (omega arith)
 
 pub runs : (p : Parameters) (w : Layers) (pe : ℕ) → SoilIn p → LayersIn p w → Runs p w pe (runoff p w pe)
 unfolding runoff

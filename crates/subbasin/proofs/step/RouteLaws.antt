@@ -47,3 +47,5 @@ module _ (s : SubBasin) (sl : Sliced) (dr : Drained) (allowed : record_in s.fixe
 
   pub leaving_fits : leaving s.line ((sl.rs + sl.rb + ti + tg) * s.fixed.area) ≤ 2 ^ 50
   leaving_fits = leaving_le s.line _ (2 ^ 50) (omega (arith, t_fits)) (record_limits s.fixed.reach s allowed).in_line
+
+pub ruleset route_laws = (route_in, t_fits, leaving_fits)

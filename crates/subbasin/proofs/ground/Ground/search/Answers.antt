@@ -13,8 +13,8 @@ use Rattle.subbasin.specs.Yields.{Answers}
 use Rattle.subbasin.specs.Workers.{SoilIn, unwalked, walk_at, walked_to, net_rain, unsoaked}
 use Rattle.subbasin.proofs.walk.WalkLaws.{walked, walked_at, walked_in, walk_most}
 use Rattle.subbasin.proofs.yields.YieldsLaws.{found, none_found}
-use Rattle.subbasin.proofs.yields.search.Invariants.{Searching}
-use Rattle.subbasin.proofs.yields.search.Goals as goal
+use Rattle.subbasin.proofs.ground.Ground.search.Invariants.{Searching}
+use Rattle.subbasin.proofs.ground.Ground.search.Goals as goal
 
 begins : (p : Parameters) (w e wanted : ℕ) (from : Walk) {k : ℕ} → k ≡ 0 → Searching p w e wanted from k from
 begins p w e wanted from first = rw first (record { walking = carry_begin; trying = try_begin })
@@ -66,7 +66,7 @@ loop-k-init c = begins _ _ _ _ _ (omega arith)
 
 pub go_on-walk-requires : goal.go_on-walk-requires
 go_on-walk-requires c = (
-  whole_in _ _ _ _ _ c.args.ground.now.soil_in c.requires c.begin-walk.ensures c.loop-k.invariant,
+  whole_in _ _ _ _ _ c.args.self.now.soil_in c.requires c.begin-walk.ensures c.loop-k.invariant,
   omega (arith, c.loop-k-test.true),
 )
 
@@ -74,25 +74,25 @@ pub overflow_add-walk : goal.overflow_add-walk
 overflow_add-walk c =
     omega (
       arith,
-      pe_fits _ _ _ _ _ c.args.ground.now.soil_in c.requires c.begin-walk.ensures c.loop-k.invariant (omega arith) c.go_on-walk.ensures
+      pe_fits _ _ _ _ _ c.args.self.now.soil_in c.requires c.begin-walk.ensures c.loop-k.invariant (omega arith) c.go_on-walk.ensures
           (omega (arith, c.loop-k-test.true)),
     )
 
 pub overflow_sub-walk : goal.overflow_sub-walk
 overflow_sub-walk c =
-    w_fits _ _ _ _ _ c.args.ground.now.soil_in c.requires c.begin-walk.ensures c.loop-k.invariant
+    w_fits _ _ _ _ _ c.args.self.now.soil_in c.requires c.begin-walk.ensures c.loop-k.invariant
     (omega arith) c.go_on-walk.ensures
 
 pub returns-then-wanted-walk : goal.returns-then-wanted-walk
 returns-then-wanted-walk c =
-    does _ _ _ _ _ c.args.ground.now.soil_in c.requires c.begin-walk.ensures c.loop-k.invariant
+    does _ _ _ _ _ c.args.self.now.soil_in c.requires c.begin-walk.ensures c.loop-k.invariant
     (omega arith) c.go_on-walk.ensures (omega (arith, c.loop-k-test.true)) c.if-wanted-walk.true
 
 pub loop-k-preserved : goal.loop-k-preserved
 loop-k-preserved c =
-    again _ _ _ _ _ c.args.ground.now.soil_in c.requires c.begin-walk.ensures c.loop-k.invariant
+    again _ _ _ _ _ c.args.self.now.soil_in c.requires c.begin-walk.ensures c.loop-k.invariant
     (omega arith) c.go_on-walk.ensures (omega (arith, c.loop-k-test.true)) c.if-wanted-walk.false (omega arith)
 
 pub returns : goal.returns
 returns c =
-    none_does _ _ _ _ _ c.args.ground.now.soil_in c.requires c.begin-walk.ensures c.loop-k.invariant (omega (arith, c.loop-k-test.false))
+    none_does _ _ _ _ _ c.args.self.now.soil_in c.requires c.begin-walk.ensures c.loop-k.invariant (omega (arith, c.loop-k-test.false))
