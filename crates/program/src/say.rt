@@ -58,18 +58,25 @@ impl fmt::Display for Word {
         match *self {
             Word::N => write!(f, "N"),
             Word::M => write!(f, "M"),
-            Word::OfSubBasin(k) => {
-                let name = record::NAMES[(k % SUB_WORDS) as usize];
-                let number = k / SUB_WORDS + 1;
-                write!(f, "{name} of sub-basin {number}")
-            }
-            Word::OfReach(k) => {
-                let name = reach::NAMES[(k % reach::WORDS) as usize];
-                let number = k / reach::WORDS + 1;
-                write!(f, "{name} of reach {number}")
-            }
+            Word::OfSubBasin(k) => write_of(f, &record::NAMES, "sub-basin", k),
+            Word::OfReach(k) => write_of(f, &reach::NAMES, "reach", k),
         }
     }
+}
+
+// Word k of records of this kind, the words of each of which have these names.
+fn write_of<W: fmt::Write>(
+    f: &mut fmt::Formatter<W>,
+    names: &[&str],
+    kind: &str,
+    k: u64,
+) -> fmt::Result
+    requires { 1 < length names.now }
+{
+    let count = names.len() as u64;
+    let name = names[(k % count) as usize];
+    let number = k / count + 1;
+    write!(f, "{name} of {kind} {number}")
 }
 
 // A part step at the end: count of the size bytes of step `step`.
