@@ -2,7 +2,7 @@
 use basin::file;
 use basin::reach::Reach;
 use basin::state::Basin;
-use basin::step::{Report, ZEROS};
+use basin::step::Report;
 use basin::week::Week;
 use common::refusal::Refused;
 use subbasin::record;
@@ -30,7 +30,7 @@ pub fn started(plan: Plan, chance: &mut Chance) -> Basin {
 // Number and place of a step, which are 0 where it is accepted, and its report, zeros where it is refused.
 pub fn of_step(given: &Result<Report, Refused>) -> [u64; 7] {
     let [number, place] = refusals::told(given);
-    let [rain, lost, outlet, content, estimated] = of_report(&given.unwrap_or(ZEROS));
+    let [rain, lost, outlet, content, estimated] = of_report(&given.unwrap_or_default());
     [number, place, rain, lost, outlet, content, estimated]
 }
 

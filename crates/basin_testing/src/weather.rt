@@ -1,5 +1,5 @@
 // Lines, drawn, and bad ones.
-use forcing::list::{BLANK, Line, Reading};
+use forcing::list::{Line, Reading};
 use testing::chance::Chance;
 use testing::climate::Climate;
 
@@ -24,7 +24,7 @@ fn millimetres(depth: u64) -> f32 {
 
 // Lines of step i.
 pub fn drawn<const N: usize>(i: u64, chance: &mut Chance) -> [Line; N] {
-    let mut lines = [BLANK; N];
+    let mut lines = [Line::default(); N];
     for here in &mut lines {
         let [x, y] = chance.draws::<2>();
         *here = line(i, x, y);
@@ -38,7 +38,10 @@ pub const CASE_A: [Line; 3] = [
         rain: Reading::Measured(135.0),
         pan: 0.0,
     },
-    BLANK,
+    Line {
+        rain: Reading::Missing,
+        pan: 0.0,
+    },
     Line {
         rain: Reading::Measured(0.0),
         pan: 10.0,

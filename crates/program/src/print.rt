@@ -78,16 +78,7 @@ impl Output {
     {
         self.put_number(step);
         match outcome {
-            Ok(report) => {
-                let numbers = [
-                    report.rain,
-                    report.evapotranspiration,
-                    report.outlet,
-                    report.content,
-                    report.estimated,
-                ];
-                self.put_words(" ok", &numbers);
-            }
+            Ok(report) => self.put_words(" ok", &report.numbers()),
             Err(refused) => self.put_words(" refused", &[refused.why.number(), refused.place]),
         }
     }

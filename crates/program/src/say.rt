@@ -3,13 +3,15 @@ ghost use Rattle.std.specs.Prelude.{◌+◌, ◌*◌, ◌≤◌, ◌<◌, ◌^�
 
 use basin::reach;
 use common::bytes::word;
-use common::refusal::{Refusal, Refused};
+use common::refusal::Refusal;
 use std::fmt::InlineText;
 use std::{fmt, io};
 use subbasin::record;
 
-// record::WORDS is the length of arrays; the file's counts are u64.
+// WORDS of both is the length of arrays; the file's counts are u64.
 const SUB_WORDS: u64 = record::WORDS as u64;
+
+const REACH_WORDS: u64 = reach::WORDS as u64;
 
 // A load of bytes that was refused with number and place.
 // A number, no Refusal: any is taken here, and a narrower type would ask more of a caller.
@@ -18,7 +20,7 @@ pub fn refused_load<W: io::Write>(to: &mut W, bytes: &[u8], number: u64, place: 
     let _ = if number == Refusal::FewBytes.number() {
         writeln!(to, "basin.bin: has fewer than 8 bytes")
     } else if number == Refusal::Length.number() {
-        let wanted = 4 * (2 + SUB_WORDS * n + reach::WORDS * m);
+        let wanted = 4 * (2 + SUB_WORDS * n + REACH_WORDS * m);
         writeln!(
             to,
             "basin.bin: does not have the {wanted} bytes that N = {n} and M = {m} ask for"

@@ -1,12 +1,15 @@
 // Lists of lines, the first ones of a buffer, as there is no heap.
 use basin_testing::weather;
 use basin_testing::weather::Fault;
-use forcing::list::{BLANK, Line};
+use forcing::list::{Line, Reading};
 use testing::chance::Chance;
 
 const MOST: usize = 2048;
 
-pub const BUFFER: [Line; MOST] = [BLANK; MOST];
+pub const BUFFER: [Line; MOST] = [Line {
+    rain: Reading::Missing,
+    pan: 0.0,
+}; MOST];
 
 // A list drawn, 32 lines in the weather of each spell, and at most all of the buffer.
 pub fn drawn<'a>(buffer: &'a mut [Line; MOST], long: usize, chance: &mut Chance) -> &'a mut [Line] {

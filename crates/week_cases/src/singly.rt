@@ -1,9 +1,9 @@
 // A week's steps taken singly, with what they answer put together.
 use basin::state::Basin;
-use basin::step::{Report, ZEROS};
+use basin::step::Report;
 use basin::week::Week;
 use common::refusal::{Refusal, Refused};
-use forcing::list::{BLANK, Line};
+use forcing::list::Line;
 
 pub fn week(b: &mut Basin, lines: &[Line]) -> Week {
     let n = b.n;
@@ -32,7 +32,7 @@ fn judged(b: &Basin, lines: &[Line]) -> Option<Refused> {
 // Steps of N lines each; after a refused one there is none.
 pub fn steps(b: &mut Basin, lines: &[Line]) -> Week {
     let n = b.n;
-    let mut week = BEGUN;
+    let mut week = Week::default();
     for here in lines.chunks((n as usize).max(1)) {
         match b.step(places(here), n) {
             Ok(report) => {
@@ -50,7 +50,7 @@ pub fn steps(b: &mut Basin, lines: &[Line]) -> Week {
 
 // The first lines in the 32 places of a step.
 fn places(lines: &[Line]) -> [Line; 32] {
-    let mut places = [BLANK; 32];
+    let mut places = [Line::default(); 32];
     for (place, line) in places.iter_mut().zip(lines) {
         *place = *line;
     }
@@ -69,15 +69,9 @@ fn together(sums: Report, last: Report) -> Report {
     }
 }
 
-const BEGUN: Week = Week {
-    count: 0,
-    report: ZEROS,
-    refusal: None,
-};
-
 fn untaken(refused: Refused) -> Week {
     Week {
         refusal: Some(refused),
-        ..BEGUN
+        ..Week::default()
     }
 }

@@ -9,7 +9,7 @@ use basin_testing::{calls, checksum, weather};
 use common::refusal::Refused;
 use curve::capacity;
 use curve::capacity::Roots;
-use forcing::list::{BLANK, Line};
+use forcing::list::Line;
 use std::{env, fmt, io};
 use testing::chance::Chance;
 use testing::choices::Choice;
@@ -91,7 +91,7 @@ fn reached(way: Way, roots: &Roots, n: u64, count: u64) -> Basin {
 }
 
 fn repeated(days: &[Line; 64]) -> [Line; 2048] {
-    let mut lines = [BLANK; 2048];
+    let mut lines = [Line::default(); 2048];
     for (here, day) in lines.iter_mut().zip(days.iter().cycle()) {
         *here = *day;
     }
@@ -125,7 +125,7 @@ fn steps<F: Fn(&mut Basin, [Line; 32], u64) -> Result<Report, Refused>>(
 
 // The n lines of step j.
 fn lines_of(days: &[Line; 64], j: u64, n: u64) -> [Line; 32] {
-    let mut here = [BLANK; 32];
+    let mut here = [Line::default(); 32];
     let at = (j.wrapping_mul(n) % 64) as usize;
     for (k, place) in here.iter_mut().take(n as usize).enumerate() {
         *place = days[(at + k) % 64];
