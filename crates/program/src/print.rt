@@ -29,7 +29,7 @@ impl<W: io::Write, E: io::Write> Streams<'_, W, E> {
         ensures same_reference { self.new.to.ghost_name ≡ self.old.to.ghost_name }
         ensures out_kept { self.new.out ≡ self.old.out }
         ensures printed { OnOk result (Appends (W.contents self.old.to.now) (W.contents self.new.to.now) self.old.out) }
-        ensures ended { IfErr result (λ ended. ended ≡ Ended.Failed) }
+        ensures failed { IfErr result (λ ended. ended ≡ Ended.Failed) }
     {
         let bytes = self.out.as_bytes();
         match calls::write_full(self.to, bytes) {
@@ -78,16 +78,7 @@ impl Output {
     {
         self.put_number(step);
         match outcome {
-            Ok(report) => {
-                let numbers = [
-                    report.rain,
-                    report.evapotranspiration,
-                    report.outlet,
-                    report.content,
-                    report.estimated,
-                ];
-                self.put_words(" ok", &numbers);
-            }
+            Ok(report) => self.put_words(" ok", &report.numbers()),
             Err(refused) => self.put_words(" refused", &[refused.why.number(), refused.place]),
         }
     }

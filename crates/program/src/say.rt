@@ -3,13 +3,15 @@ ghost use Rattle.std.specs.Prelude.{◌+◌, ◌*◌, ◌≤◌, ◌<◌, ◌^�
 
 use basin::reach;
 use common::bytes::word;
-use common::refusal::{Refusal, Refused};
+use common::refusal::Refusal;
 use std::fmt::InlineText;
 use std::{fmt, io};
 use subbasin::record;
 
-// record::WORDS is the length of arrays; the file's counts are u64.
+// WORDS of both is the length of arrays; the file's counts are u64.
 const SUB_WORDS: u64 = record::WORDS as u64;
+
+const REACH_WORDS: u64 = reach::WORDS as u64;
 
 // A load of bytes that was refused with number and place.
 // A number, no Refusal: any is taken here, and a narrower type would ask more of a caller.
@@ -18,7 +20,7 @@ pub fn refused_load<W: io::Write>(to: &mut W, bytes: &[u8], number: u64, place: 
     let _ = if number == Refusal::FewBytes.number() {
         writeln!(to, "basin.bin: has fewer than 8 bytes")
     } else if number == Refusal::Length.number() {
-        let wanted = 4 * (2 + SUB_WORDS * n + reach::WORDS * m);
+        let wanted = 4 * (2 + SUB_WORDS * n + REACH_WORDS * m);
         writeln!(
             to,
             "basin.bin: does not have the {wanted} bytes that N = {n} and M = {m} ask for"
@@ -58,18 +60,25 @@ impl fmt::Display for Word {
         match *self {
             Word::N => write!(f, "N"),
             Word::M => write!(f, "M"),
-            Word::OfSubBasin(k) => {
-                let name = record::NAMES[(k % SUB_WORDS) as usize];
-                let number = k / SUB_WORDS + 1;
-                write!(f, "{name} of sub-basin {number}")
-            }
-            Word::OfReach(k) => {
-                let name = reach::NAMES[(k % reach::WORDS) as usize];
-                let number = k / reach::WORDS + 1;
-                write!(f, "{name} of reach {number}")
-            }
+            Word::OfSubBasin(k) => write_of(f, &record::NAMES, "sub-basin", k),
+            Word::OfReach(k) => write_of(f, &reach::NAMES, "reach", k),
         }
     }
+}
+
+// Word k of records of this kind, the words of each of which have these names.
+fn write_of<W: fmt::Write>(
+    f: &mut fmt::Formatter<W>,
+    names: &[&str],
+    kind: &str,
+    k: u64,
+) -> fmt::Result
+    requires { 1 < length names.now }
+{
+    let count = names.len() as u64;
+    let name = names[(k % count) as usize];
+    let number = k / count + 1;
+    write!(f, "{name} of {kind} {number}")
 }
 
 // A part step at the end: count of the size bytes of step `step`.

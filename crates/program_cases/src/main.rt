@@ -46,8 +46,7 @@ fn run(rt: HostRuntime, number: u8) -> io::Result<()> {
 // What is said of a file with n sub-basins and m reaches, of every word of it last.
 fn refused_loads<W: io::Write>(to: &mut W, n: u8, m: u8) {
     let bytes = [n, 0, 0, 0, m, 0, 0, 0];
-    let mut say =
-        |why: Refusal, place| say::refused_load(to, &bytes, why.number(), place);
+    let mut say = |why: Refusal, place| say::refused_load(to, &bytes, why.number(), place);
     say(Refusal::FewBytes, 0);
     say(Refusal::Counts, 0);
     say(Refusal::Counts, 1);

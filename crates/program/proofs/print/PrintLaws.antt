@@ -7,6 +7,7 @@ use Rattle.std.proofs.Common.{Option}
 use Rattle.std.specs.Io.KnownBytes.{Appends}
 use Rattle.std.proofs.KnownBytes.{Appends-nil}
 use Rattle.basin.specs.declared.step.Report.{Report}
+use Rattle.basin.specs.Step.{numbers_of}
 use Rattle.program.specs.Print.{decimal, load, ok, refused, short, blank}
 use Rattle.program.specs.Print.{load_text, accepted_text, refused_text, short_text, part_text}
 use Rattle.program.specs.Workers.{numbers_text}
@@ -22,7 +23,7 @@ module _ {out out₁ : List ℕ} (empty : out ≡ []) where
 
 module _ (out : List ℕ) {out₁ out₂ : List ℕ} (step : ℕ) (put : out₁ ≡ out ++ decimal step) where
   pub accepted_put : (report : Report)
-      → out₂ ≡ out₁ ++ ((blank ++ ok) ++ numbers_text (report.rain ∷ report.evapotranspiration ∷ report.outlet ∷ report.content ∷ report.estimated ∷ []))
+      → out₂ ≡ out₁ ++ ((blank ++ ok) ++ numbers_text (numbers_of report))
       → out₂ ≡ out ++ accepted_text step report
   unfolding accepted_text
   accepted_put report e = rw (e, put) (simp append_assoc)
