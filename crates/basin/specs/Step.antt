@@ -1,5 +1,5 @@
 -- Document 01: one step of the basin, its report, and the step call.
-use Rattle.std.specs.Prelude.{◌≡◌, ℕ, ◌+◌, ◌*◌, true, false, cond, List, ◌↔◌, eqb, get_or, replicate, Result, Ok, Err}
+use Rattle.std.specs.Prelude.{◌≡◌, ℕ, ◌+◌, ◌*◌, true, false, cond, List, [], ◌∷◌, ◌↔◌, eqb, get_or, replicate, Result, Ok, Err}
 use Rattle.common.specs.declared.weather.Weather.{Weather}
 use Rattle.common.specs.declared.refusal.Refused.{Refused as Reason}
 use Rattle.common.specs.Refusals.{number_of}
@@ -50,6 +50,10 @@ pub record Outcome : Type 0 where
   pub place : ℕ
   pub basin : Basin
   pub report : Report
+
+-- "rain, evapotranspiration, outlet volume, content (all m³), estimated lines", in this order
+abbrev pub numbers_of : Report → List ℕ
+numbers_of r = r.rain ∷ r.evapotranspiration ∷ r.outlet ∷ r.content ∷ r.estimated ∷ []
 
 -- An accepted step.
 unfoldable pub taken : Basin → Forcing → Outcome

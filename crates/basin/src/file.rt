@@ -8,13 +8,11 @@ ghost use Rattle.basin.specs.File.{as_loaded, load_call, FileIn, Holds};
 ghost use Rattle.basin.specs.Account.{Demand3};
 ghost use Rattle.basin.specs.Workers.{sub_stored, reach_stored, ReadOf};
 
-use crate::reach;
-use crate::reach::Reach;
+use crate::reach::{self, Reach};
 use crate::state::{Basin, MOST_REACHES, MOST_SUBS};
 use common::bytes::word;
 use common::refusal::{Refusal, Refused};
-use subbasin::record;
-use subbasin::record::{MOST_START, SubBasin};
+use subbasin::record::{self, MOST_START, SubBasin};
 
 // No file has fewer bytes.
 const LEAST_BYTES: u64 = 8;
@@ -118,7 +116,7 @@ impl Record for Reach {
 
     ghost few = { lit≤ tt };
 
-    const WORDS: u64 = reach::WORDS;
+    const WORDS: u64 = reach::WORDS as u64;
 
     fn read(bytes: &[u8], start: u64) -> Reach {
         Reach {
@@ -145,7 +143,7 @@ fn read_all<R: Record>(
     requires { (n ≤ 32) × (n ≤ length records.old) × (start ≤ 1000) }
     ensures { ReadOf start R.WORDS (λ i. R.stored bytes.now (start + R.WORDS * i)) (λ i. R.words m (suc i) (R.stored bytes.now (start + R.WORDS * i))) n records.old records.new result }
 {
-    // By index: i gives a record's place in the file and its number, beside its place in `records`.
+    // By index: `(0..n).zip(records)` would lend the records, of which a proof then knows nothing.
     for i in 0..n {
         let at = start + R::WORDS * i;
         let record = R::read(bytes, at);

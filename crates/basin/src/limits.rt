@@ -23,11 +23,11 @@ impl Basin {
             .all(|s| s.allowed(self.m))
     }
 
+    #[tactic(auto, unfolding(crate::specs::Limits::counts_in))]
     fn counts_allowed(&self) -> bool
         ensures { result ≡ counts_in self.now.n self.now.m }
     {
-        let n = self.n;
-        1 <= n && n <= MOST_SUBS && self.m <= MOST_REACHES
+        (1..=MOST_SUBS).contains(&self.n) && self.m <= MOST_REACHES
     }
 
     // The reaches, and the records that are not in use.

@@ -19,7 +19,7 @@ pub fn route(reaches: &mut [Reach; 31], pending: &mut [u64; 32], m: u64) -> Rout
     ensures { Flowed m reaches.old pending.old reaches.new result.outlet result.held }
 {
     let mut held = 0;
-    // By index: `iter_mut().enumerate()` was tried, and its proof didn't close.
+    // By index: what is lent by `iter_mut().enumerate()` (tried) is not known to a proof in the loop, nor after it.
     for i in 0..m as usize {
         let r = &mut reaches[i];
         let out = r.pass(pending[i + 1]);

@@ -16,9 +16,9 @@ pub struct Reach {
 }
 
 // How many words a reach has in the file, and their names.
-pub const WORDS: u64 = 3;
+pub const WORDS: usize = 3;
 
-pub const NAMES: [&str; 3] = ["c0", "c1", "next"];
+pub const NAMES: [&str; WORDS] = ["c0", "c1", "next"];
 
 impl Reach {
     // The number of its first word outside its range, if there is one; j is the reach's own number, from 1. No list of ranges as the record

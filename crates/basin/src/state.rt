@@ -5,7 +5,7 @@ ghost use Rattle.basin.specs.Limits.{basin_in, Unused};
 use crate::reach::Reach;
 use subbasin::record::SubBasin;
 
-// N sub-basins and M reaches; the records past them are zero.
+// N sub-basins and M reaches, in fixed arrays, as there is no heap; the records past them are zero, which 9 judges.
 #[derive(Clone, Copy)]
 pub struct Basin {
     pub n: u64,

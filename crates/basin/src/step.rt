@@ -3,21 +3,20 @@ ghost use Rattle.std.specs.Prelude.{◌≡◌, true, cond, ◌≤◌};
 ghost use Rattle.common.specs.Weather.{WeatherIn};
 ghost use Rattle.forcing.specs.List.{as_forcing};
 ghost use Rattle.basin.specs.Limits.{others_in, basin_in};
-ghost use Rattle.basin.specs.Step.{taken, as_outcome, refused_step, step_call, Judged};
+ghost use Rattle.basin.specs.Step.{taken, numbers_of, as_outcome, refused_step, step_call, Judged};
 ghost use Rattle.basin.specs.Workers.{CountsIn, Weathers, TurnOf, subs_only, SubsOf};
 
 use crate::network;
 use crate::state::Basin;
 use common::refusal::{Refusal, Refused};
 use common::weather::Weather;
-use curve::capacity;
-use curve::capacity::Roots;
-use forcing::list;
-use forcing::list::{Line, Readings};
+use curve::capacity::{self, Roots};
+use forcing::list::{self, Line, Readings};
 use subbasin::record::SubBasin;
 
-// What a step reports: rain, evapotranspiration, outlet volume and content in m³, and how many lines were estimated.
-#[derive(Clone, Copy)]
+// What a step reports: rain, evapotranspiration, outlet volume and content in m³, and how many lines were estimated. By default zeros, the
+// report of no step.
+#[derive(Clone, Copy, Default)]
 pub struct Report {
     pub rain: u64,
     pub evapotranspiration: u64,
@@ -26,18 +25,24 @@ pub struct Report {
     pub estimated: u64,
 }
 
-// The report of no step.
-pub const ZEROS: Report = Report {
-    rain: 0,
-    evapotranspiration: 0,
-    outlet: 0,
-    content: 0,
-    estimated: 0,
-};
+impl Report {
+    // Its numbers, in the order in which a step's line has them.
+    pub fn numbers(&self) -> [u64; 5]
+        ensures { result ≡ numbers_of self.now }
+    {
+        [
+            self.rain,
+            self.evapotranspiration,
+            self.outlet,
+            self.content,
+            self.estimated,
+        ]
+    }
+}
 
 impl Basin {
-    // One step under a forcing list of count lines. 9 is judged before 5, and 5 before the lines. A step that is refused leaves the basin
-    // as it was.
+    // One step under a forcing list of count lines, in a fixed array as document 01 has it. 9 is judged before 5, and 5 before the lines. A
+    // step that is refused leaves the basin as it was.
     pub fn step(&mut self, lines: [Line; 32], count: u64) -> Result<Report, Refused>
         ensures answers { as_outcome self.new result ≡ step_call self.old lines count }
         ensures judges { Judged self.old lines count (as_outcome self.new result) }
@@ -60,10 +65,8 @@ impl Basin {
         if !self.others_allowed() {
             return Err(Refusal::BadBasin.into());
         }
-        match list::read(lines, count, self.n) {
-            Ok(readings) => self.take(roots, &readings),
-            Err(by_lines) => Err(self.refusal(by_lines)),
-        }
+        let readings = list::read(lines, count, self.n).map_err(|by_lines| self.refusal(by_lines))?;
+        self.take(roots, &readings)
     }
 
     // Why a step is refused whose lines are: by 9 where that doesn't allow a sub-basin in use.
@@ -123,7 +126,7 @@ fn step_subs(
     let mut rain = 0;
     let mut loss = 0;
     let mut held = 0;
-    // By index: `iter_mut().zip(weather)` was tried, and its proof didn't close.
+    // By index: what is lent by `iter_mut().zip(weather)` (tried) is not known to a proof in the loop, nor after it.
     for i in 0..n as usize {
         let turn = take_turn(roots, &mut subs[i], weather[i], m)?;
         sent[turn.to as usize] += turn.q;
@@ -158,9 +161,7 @@ fn take_turn(roots: &Roots, s: &mut SubBasin, w: Weather, m: u64) -> Result<Turn
     if m < reach {
         return Err(Refusal::BadBasin);
     }
-    let Ok(flows) = s.step_with(roots, w) else {
-        return Err(Refusal::BadBasin);
-    };
+    let flows = s.step_with(roots, w).or(Err(Refusal::BadBasin))?;
     Ok(Turn {
         to: reach,
         q: flows.q,

@@ -2,8 +2,9 @@
 use crate::step::Report;
 use common::refusal::Refused;
 
-// How many steps were accepted, their reports together (sums, and the last one's content), and why and where the one after them was refused.
-#[derive(Clone, Copy)]
+// How many steps were accepted, their reports together (sums, and the last one's content), and why and where the one after them was refused. By
+// default none was taken, and none refused.
+#[derive(Clone, Copy, Default)]
 pub struct Week {
     pub count: u64,
     pub report: Report,

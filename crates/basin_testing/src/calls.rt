@@ -1,8 +1,7 @@
-// Loaded basins, and a report as numbers.
+// Loaded basins.
 use basin::file;
 use basin::reach::Reach;
 use basin::state::Basin;
-use basin::step::Report;
 use subbasin::record::{self, SubBasin};
 use testing::chance::Chance;
 use testing::choices::Choice;
@@ -26,15 +25,4 @@ pub fn started(plan: Plan, chance: &mut Chance) -> Basin {
 // Of case A of document 01.
 pub fn case_a() -> Basin {
     started(Plan::chain(Choice::CaseA, 1, 0), &mut Chance::new())
-}
-
-// As the program prints them.
-pub fn of_report(report: &Report) -> [u64; 5] {
-    [
-        report.rain,
-        report.evapotranspiration,
-        report.outlet,
-        report.content,
-        report.estimated,
-    ]
 }

@@ -1,5 +1,5 @@
 // Lines, drawn, and bad ones.
-use forcing::list::{BLANK, Line, Reading};
+use forcing::list::{Line, Reading};
 use std::array;
 use testing::chance::Chance;
 use testing::climate::Climate;
@@ -34,7 +34,10 @@ pub const CASE_A: [Line; 3] = [
         rain: Reading::Measured(135.0),
         pan: 0.0,
     },
-    BLANK,
+    Line {
+        rain: Reading::Missing,
+        pan: 0.0,
+    },
     Line {
         rain: Reading::Measured(0.0),
         pan: 10.0,

@@ -6,3 +6,4 @@ pub mod Refusals
 pub mod Greatest
 pub mod Smallest
 pub mod Cases
+pub mod Mapped

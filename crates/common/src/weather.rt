@@ -1,6 +1,6 @@
 // The weather of one line: document 01, "The forcing list". Depths in µm.
 
-#[derive(Clone, Copy)]
+#[derive(Clone, Copy, Default)]
 pub struct Weather {
     pub rain: u64,
     pub pan: u64,

@@ -5,7 +5,7 @@ use basin::file;
 use basin::state::Basin;
 use basin::step::Report;
 use common::refusal::Refused;
-use forcing::list::{BLANK, Line, Reading};
+use forcing::list::{Line, Reading};
 use std::io::Read;
 use std::{fs, io};
 
@@ -34,7 +34,7 @@ fn main(rt: HostRuntime) -> io::Result<()> {
 
 // One step: it takes 32 lines and looks at the first two. One that is refused leaves the basin as it was; its error says why, and where.
 fn day(basin: &mut Basin, first: Reading, second: Reading) -> Result<Report, Refused> {
-    let mut lines = [BLANK; 32];
+    let mut lines = [Line::default(); 32];
     lines[0] = Line {
         rain: first,
         pan: 4.0,

@@ -1,5 +1,5 @@
 -- One number in millimetres: document 01, "The forcing list", and the depth call of "Who sent it". Depths are in µm.
-use Rattle.std.specs.Prelude.{ℕ, ◌+◌, ◌*◌, ◌/◌, ◌≡◌, Bool, true, false, cond, not, ◌&&◌, ◌↔◌, ltb, leb, eqb, ℤ, Float, Result, Ok, Err}
+use Rattle.std.specs.Prelude.{ℕ, ◌+◌, ◌*◌, ◌/◌, ◌≡◌, Bool, true, false, cond, not, ◌&&◌, ◌↔◌, ltb, leb, eqb, ℤ, List, codes, Float, Result, Ok, Err}
 use Rattle.std.specs.Float.{nan, inf, fin}
 use Rattle.std.specs.Float.Ieee.{up, down}
 use Rattle.common.specs.declared.refusal.Refusal.{Refusal}
@@ -40,6 +40,11 @@ from_zero_to limit (inf s) = false
 from_zero_to limit (fin s m e) = not (s && ltb 0 m) && leb (m * up e) (limit * down e)
 
 -- ---- "Who sent it": gauge readers, and the depth call
+
+-- "said to be rain or pan"
+abbrev pub gauge_text : Gauge → List ℕ
+gauge_text Rain = codes "rain"
+gauge_text Pan = codes "pan"
 
 -- "7 not a number, infinite or below zero"
 unfoldable pub unfit : Float → Bool

@@ -1,11 +1,12 @@
 // One number in millimetres: document 01, "The forcing list", and the depth call of "Who sent it".
-ghost use Rattle.std.specs.Prelude.{◌≡◌, ◌^◌};
+ghost use Rattle.std.specs.Prelude.{◌≡◌, ◌^◌, Some};
 ghost use Rattle.std.specs.Float.{binary32};
 ghost use Rattle.std.specs.Float.Ieee.{of_bits};
-ghost use Rattle.forcing.specs.Depth.{limit_of, as_depth, depth_call, JudgedNumber};
+ghost use Rattle.forcing.specs.Depth.{limit_of, gauge_text, as_depth, depth_call, JudgedNumber};
 ghost use Rattle.forcing.specs.Workers.{Scaled, of_fraction};
 
 use common::refusal::Refusal;
+use std::fmt;
 
 // What a number is said to be: it decides the limit.
 #[derive(Clone, Copy)]
@@ -26,6 +27,17 @@ impl Gauge {
     }
 }
 
+impl fmt::Display for Gauge {
+    ghost output = { λ said. Some (gauge_text said) };
+
+    fn fmt<W: fmt::Write>(&self, f: &mut fmt::Formatter<W>) -> fmt::Result {
+        f.write_str(match self {
+            Gauge::Rain => "rain",
+            Gauge::Pan => "pan",
+        })
+    }
+}
+
 // The depth call on one number in millimetres, said to be rain or pan: the depth in µm.
 pub fn depth_of(x: f32, said: Gauge) -> Result<u64, Refusal>
     ensures answered { as_depth result ≡ depth_call x said }
@@ -37,7 +49,7 @@ pub fn depth_of(x: f32, said: Gauge) -> Result<u64, Refusal>
     judge_bits(x.to_bits(), said)
 }
 
-// Sign, exponent and fraction are taken from the 32 bits. The number is significand / 2^places: the fraction over 2^149 where
+// Sign, exponent and fraction are taken from the 32 bits, by document 01's shifts and masks. The number is significand / 2^places: the fraction over 2^149 where
 // the exponent is 0, and otherwise the fraction with a leading digit before it, over 2^(150 - exponent).
 #[tactic(auto, using(crate::proofs::depth::ValueLaws::bits_laws))]
 fn judge_bits(bits: u32, said: Gauge) -> Result<u64, Refusal>

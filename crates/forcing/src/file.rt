@@ -13,10 +13,11 @@ pub const LINE_BYTES: u64 = 12;
 pub fn lines_of(bytes: &[u8], n: u64) -> [Line; 32]
     ensures { result ≡ lines_of bytes.now n }
 {
+    let none = Line::default();
     std::array::from_fn(|k| if (k as u64) < n {
         file_line(bytes, k)
     } else {
-        line_of(0, 0, 0)
+        none
     })
 }
 

@@ -6,16 +6,16 @@ ghost use Rattle.forcing.specs.Depth.{as_depth};
 ghost use Rattle.forcing.specs.List.{weather_of, line_number, estimated_of, as_forcing, reading, JudgedList};
 ghost use Rattle.forcing.specs.Workers.{rain_call};
 
-use crate::depth;
-use crate::depth::Gauge;
+use crate::depth::{self, Gauge};
 use common::refusal::{Refusal, Refused};
 use common::weather::Weather;
 
 // A rain reading, in millimetres.
-#[derive(Clone, Copy)]
+#[derive(Clone, Copy, Default)]
 pub enum Reading {
     Measured(f32),
     Estimated(f32),
+    #[default]
     Missing,
 }
 
@@ -27,18 +27,12 @@ impl Reading {
     }
 }
 
-// One sub-basin's line: rain and pan, in millimetres.
-#[derive(Clone, Copy)]
+// One sub-basin's line: rain and pan, in millimetres. By default, where there is no line, rain is missing and pan 0.
+#[derive(Clone, Copy, Default)]
 pub struct Line {
     pub rain: Reading,
     pub pan: f32,
 }
-
-// Where there is no line.
-pub const BLANK: Line = Line {
-    rain: Reading::Missing,
-    pan: 0.0,
-};
 
 // What the lines of one step came to: how many are estimated, and the weather by sub-basin.
 #[derive(Clone, Copy)]
@@ -47,9 +41,7 @@ pub struct Readings {
     pub weather: [Weather; 32],
 }
 
-const CALM: Weather = Weather { rain: 0, pan: 0 };
-
-// Judges the lines of one step, for a basin of n sub-basins.
+// Judges the lines of one step, `count` of the fixed array that document 01 has go into it, for a basin of n sub-basins.
 pub fn read(lines: [Line; 32], count: u64, n: u64) -> Result<Readings, Refused>
     ensures answered { as_forcing result ≡ reading lines count n }
     ensures judged { JudgedList lines count n (as_forcing result) }
@@ -57,21 +49,13 @@ pub fn read(lines: [Line; 32], count: u64, n: u64) -> Result<Readings, Refused>
     if count != n {
         return Err(Refusal::LineCount.into());
     }
-    let mut weather = [CALM; 32];
+    let mut weather = [Weather::default(); 32];
     let mut estimated = 0;
-    // By number, and not over the lines: n may be above 32, and there is no line past the 32nd: its rain is missing.
+    // By number: n may be above 32. Past the 32nd line there is none, and its rain is missing.
     for at in 0..n {
-        if 31 < at {
-            return Err(Refused {
-                why: Refusal::RainMissing,
-                place: at + 1,
-            });
-        }
-        let line = lines[at as usize];
-        match judge_line(line) {
-            Ok(here) => weather[at as usize] = here,
-            Err(why) => return Err(Refused { why, place: at + 1 }),
-        }
+        let line = lines.get(at as usize).copied().unwrap_or_default();
+        let place = at + 1;
+        weather[at as usize] = judge_line(line).map_err(|why| Refused { why, place })?;
         estimated += u64::from(line.rain.is_estimated());
     }
     Ok(Readings { estimated, weather })

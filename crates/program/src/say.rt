@@ -8,8 +8,10 @@ use std::fmt::InlineText;
 use std::{fmt, io};
 use subbasin::record;
 
-// record::WORDS is the length of arrays; the file's counts are u64.
+// WORDS of both is the length of arrays; the file's counts are u64.
 const SUB_WORDS: u64 = record::WORDS as u64;
+
+const REACH_WORDS: u64 = reach::WORDS as u64;
 
 // A load of bytes that was refused.
 pub fn refused_load<W: io::Write>(to: &mut W, bytes: &[u8], refused: Refused) {
@@ -18,7 +20,7 @@ pub fn refused_load<W: io::Write>(to: &mut W, bytes: &[u8], refused: Refused) {
     let _ = match refused.why {
         Refusal::FewBytes => writeln!(to, "basin.bin: has fewer than 8 bytes"),
         Refusal::Length => {
-            let wanted = 4 * (2 + SUB_WORDS * n + reach::WORDS * m);
+            let wanted = 4 * (2 + SUB_WORDS * n + REACH_WORDS * m);
             writeln!(
                 to,
                 "basin.bin: does not have the {wanted} bytes that N = {n} and M = {m} ask for"
@@ -63,8 +65,8 @@ impl fmt::Display for Word {
                 write!(f, "{name} of sub-basin {number}")
             }
             Word::OfReach(k) => {
-                let name = reach::NAMES[(k % reach::WORDS) as usize];
-                let number = k / reach::WORDS + 1;
+                let name = reach::NAMES[(k % REACH_WORDS) as usize];
+                let number = k / REACH_WORDS + 1;
                 write!(f, "{name} of reach {number}")
             }
         }

@@ -176,6 +176,14 @@ pub record Going (b : Basin) (lines : List Line) (n size : ℕ) (rest : List Lin
   pub size_is : size ≡ n
   pub shaped : Shaped now
 
+-- what a derived default says
+pub default_week : (w : Week)
+    → (w.count ≡ 0)
+    × (((w.report.rain ≡ 0) × ((w.report.evapotranspiration ≡ 0) × ((w.report.outlet ≡ 0) × ((w.report.content ≡ 0) × (w.report.estimated ≡ 0)))))
+    × (w.refusal ≡ None))
+    → w ≡ record { count = 0; report = zeros; refusal = None }
+default_week w h = let r = h.1.0 in rw (h.0, r.0, r.1.0, r.1.1.0, r.1.1.1.0, r.1.1.1.1, h.1.1)
+
 pub going_begun : {b : Basin} {lines rest : List Line} {size : ℕ} → Fits b (length lines) → size ≡ b.n → rest ≡ lines
     → Going b lines b.n size rest b (record { count = 0; report = zeros; refusal = None })
 going_begun {b} {lines} f s r =

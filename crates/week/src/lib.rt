@@ -6,12 +6,11 @@ ghost use Rattle.basin.specs.Week.{step_lines, joined, as_ran, week_call, WeekJu
 ghost use Rattle.week.specs.Workers.{Fits, Refuses, SumsFit};
 
 use basin::state::Basin;
-use basin::step::{Report, ZEROS};
+use basin::step::Report;
 use basin::week::Week;
 use common::refusal::Refusal;
-use curve::capacity;
-use curve::capacity::Roots;
-use forcing::list::{BLANK, Line};
+use curve::capacity::{self, Roots};
+use forcing::list::Line;
 
 // The most steps of a week.
 pub const MOST_STEPS: u64 = 1000;
@@ -31,11 +30,7 @@ pub fn week_with(roots: &Roots, b: &mut Basin, lines: &[Line]) -> Week
     ensures answers { as_ran b.new result ≡ week_call b.old lines.now }
     ensures judges { WeekJudged b.old lines.now (as_ran b.new result) }
 {
-    let mut week = Week {
-        count: 0,
-        report: ZEROS,
-        refusal: None,
-    };
+    let mut week = Week::default();
     if let Err(why) = judge(*b, lines.len()) {
         week.refusal = Some(why.into());
         return week;
@@ -66,7 +61,7 @@ fn judge(b: Basin, long: usize) -> Result<(), Refusal>
         return Err(Refusal::BadBasin);
     }
     let lines = long as u64;
-    if MOST_STEPS * b.n < lines || lines % b.n != 0 {
+    if MOST_STEPS * b.n < lines || !lines.is_multiple_of(b.n) {
         return Err(Refusal::LineCount);
     }
     Ok(())
@@ -77,7 +72,8 @@ fn lines_of(step: &[Line]) -> [Line; 32]
     requires { length step.now ≤ 32 }
     ensures { result ≡ step_lines (length step.now) step.now }
 {
-    std::array::from_fn(|k| step.get(k).copied().unwrap_or(BLANK))
+    let none = Line::default();
+    std::array::from_fn(|k| step.get(k).copied().unwrap_or(none))
 }
 
 // Summed reports, with the last one's content.

@@ -1,9 +1,9 @@
 // A week's steps taken singly, with what they answer put together.
 use basin::state::Basin;
-use basin::step::{Report, ZEROS};
+use basin::step::Report;
 use basin::week::Week;
 use common::refusal::{Refusal, Refused};
-use forcing::list::{BLANK, Line};
+use forcing::list::Line;
 use std::array;
 
 pub fn week(b: &mut Basin, lines: &[Line]) -> Week {
@@ -11,7 +11,7 @@ pub fn week(b: &mut Basin, lines: &[Line]) -> Week {
         Ok(()) => steps(b, lines),
         Err(refused) => Week {
             refusal: Some(refused),
-            ..BEGUN
+            ..Week::default()
         },
     }
 }
@@ -35,7 +35,7 @@ fn judge(b: &Basin, lines: &[Line]) -> Result<(), Refused> {
 
 // Steps of N lines each; after a refused one there is none.
 pub fn steps(b: &mut Basin, lines: &[Line]) -> Week {
-    let mut week = BEGUN;
+    let mut week = Week::default();
     for here in lines.chunks((b.n as usize).max(1)) {
         match b.step(places(here), b.n) {
             Ok(report) => {
@@ -53,7 +53,7 @@ pub fn steps(b: &mut Basin, lines: &[Line]) -> Week {
 
 // The first lines in the 32 places of a step.
 fn places(lines: &[Line]) -> [Line; 32] {
-    array::from_fn(|k| lines.get(k).copied().unwrap_or(BLANK))
+    array::from_fn(|k| lines.get(k).copied().unwrap_or_default())
 }
 
 fn together(sums: Report, last: Report) -> Report {
@@ -67,9 +67,3 @@ fn together(sums: Report, last: Report) -> Report {
         estimated: sums.estimated.wrapping_add(last.estimated),
     }
 }
-
-const BEGUN: Week = Week {
-    count: 0,
-    report: ZEROS,
-    refusal: None,
-};

@@ -8,7 +8,7 @@ use basin::step::Report;
 use basin_testing::{calls, checksum, weather};
 use common::refusal::Refused;
 use curve::capacity::{self, Roots};
-use forcing::list::{BLANK, Line};
+use forcing::list::Line;
 use std::{array, env, fmt, io};
 use testing::chance::Chance;
 use testing::choices::Choice;
@@ -154,6 +154,6 @@ fn lines_of(days: &[Line; 64], j: u64, n: u64) -> [Line; 32] {
     array::from_fn(|k| if (k as u64) < n {
         days[(at + k) % 64]
     } else {
-        BLANK
+        Line::default()
     })
 }

@@ -4,8 +4,6 @@ use mathlib.Core.Bool.{Bool, true, false, ◌&&◌}
 use mathlib.Core.List.{List}
 use Prim.Native.Nat.{ℕ, zero, suc, ◌+◌, ◌-◌, ◌≤◌, ◌<◌}
 use native.Mathlib.Omega.{arith}
-use lib.Dec.{leb}
-use borrow.Author.Tests.{le-leb}
 use native.Mathlib.Numerals.{add-one}
 use lib.ListN.{length, get_or, take, drop, length-take}
 use lib.Seq.{take_all}
@@ -15,7 +13,7 @@ use Rattle.std.proofs.lemmas.List.{get_or-take, get_or-drop}
 use Rattle.std.proofs.lemmas.List.Folds.{list_all_more}
 use Rattle.common.specs.Limits.{within}
 use Rattle.common.specs.Loops.{every}
-use Rattle.common.proofs.Limits.{both, parts, within_in, within_limits, within_not}
+use Rattle.common.proofs.Limits.{both, parts, within_in, within_limits}
 use Rattle.common.proofs.Loops.{every_in, every_at}
 use Rattle.subbasin.specs.Record.{record_in, is_blank}
 use Rattle.subbasin.proofs.record.RecordLaws.{RecordIn, record_limits, record_in_lem}
@@ -39,15 +37,6 @@ module _ (n m : ℕ) where
   pub counts_in_lem : CountsIn n m → counts_in n m ≡ true
   unfolding counts_in
   counts_in_lem h = both (within_in 1 n most_subs h.n_least h.n_most) (within_in 0 m most_reaches (omega arith) h.m_most)
-
-  pub n_outside : (1 ≤ n → n ≤ most_subs → ⊥) → false ≡ counts_in n m
-  unfolding counts_in
-  n_outside h = sym (rw (within_not 1 n most_subs h))
-
-  -- and inside, M decides
-  pub n_inside : 1 ≤ n → n ≤ most_subs → leb m most_reaches ≡ counts_in n m
-  unfolding counts_in
-  n_inside l h = sym (rw (within_in 1 n most_subs l h, le-leb 0 m (omega arith)))
 
 -- ---- a test of the first n records of a list, and of those from the n-th on
 

@@ -1,11 +1,13 @@
 -- One sub-basin's turn: its own call judges its record, REACH apart, and what it gives fits into machine words. Assumes nothing.
-use mathlib.Core.Path.{◌≡◌, refl, ap}
+use mathlib.Core.Path.{◌≡◌, refl, ap, ◌∙◌}
 use mathlib.Core.Bool.{false}
 use Prim.Native.Nat.{ℕ, ◌+◌, ◌*◌, ◌^◌, ◌≤◌, ◌<◌}
 use native.Mathlib.Nat.{le_refl, mul-le-mul_right}
 use native.Mathlib.Omega.{arith}
-use Rattle.std.proofs.Common.{Ok, Err}
+use Rattle.std.proofs.Common.{Result, Ok, Err}
+use Rattle.std.specs.Result.{result_or}
 use Rattle.common.specs.declared.refusal.Refusal.{Refusal}
+use Rattle.common.specs.declared.refusal.Refusal.TheVariants.{BadBasin}
 use Rattle.common.specs.declared.weather.Weather.{Weather}
 use Rattle.common.specs.Weather.{WeatherIn}
 use Rattle.common.specs.Amounts.{capped}
@@ -25,12 +27,25 @@ module _ (m : ℕ) (s : SubBasin) (w : Weather) where
   reach_outside h = refuted (record_in m s) (λ t. let words = (record_limits m s t).in_words in omega arith)
 
   module _ (k : WeatherIn w) (after : SubBasin) where
-    pub call_refuses : (why : Refusal) → as_stepped after (Err why) ≡ sub_call s w → record_in m s ≡ false
+    call_refuses : (why : Refusal) → as_stepped after (Err why) ≡ sub_call s w → record_in m s ≡ false
     call_refuses why called =
         refuted (record_in m s) (λ t.
         err_out s w why called (record { in_record = record_other m s.fixed.reach s (record_limits m s t) (le_refl s.fixed.reach); in_weather = k }))
 
-    module _ (reach : s.fixed.reach ≤ m) (f : Flows) (called : as_stepped after (Ok f) ≡ sub_call s w) where
+    -- whatever it is that its own call refuses, the basin's refusal is 9
+    pub turn_refused : (r : Result Flows Refusal) {told : Refusal} → as_stepped after r ≡ sub_call s w → Err told ≡ result_or r (Err BadBasin)
+        → (record_in m s ≡ false) × (told ≡ BadBasin)
+    turn_refused (Ok f) called e = cc
+    turn_refused (Err why) called e = (call_refuses why called, cc)
+
+    taken : (r : Result Flows Refusal) (f : Flows) → as_stepped after r ≡ sub_call s w → Ok f ≡ result_or r (Err BadBasin) → as_stepped after (Ok f) ≡ sub_call s w
+    taken (Ok g) f called e = ap (as_stepped after) e ∙ called
+    taken (Err why) f called e = cc
+
+    module _ (reach : s.fixed.reach ≤ m) (r : Result Flows Refusal) (f : Flows) (call : as_stepped after r ≡ sub_call s w) (ok : Ok f ≡ result_or r (Err BadBasin)) where
+      called : as_stepped after (Ok f) ≡ sub_call s w
+      called = taken r f call ok
+
       st_is : as_stepped after (Ok f) ≡ stepped s w
       st_is = ok_steps s w f called
 

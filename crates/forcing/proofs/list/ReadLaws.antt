@@ -4,23 +4,40 @@ use mathlib.Core.Path.{◌≡◌, refl, sym, ap, ◌∙◌}
 use mathlib.Core.Bool.{Bool, true, false, true≢false, cond}
 use mathlib.Core.List.{List}
 use Prim.Native.Nat.{ℕ, zero, suc, ◌-◌, ◌≤◌, ◌<◌}
+use native.Mathlib.Nat.{le_refl}
 use native.Mathlib.Decide.{dec_le, ℕ_discrete}
 use native.Mathlib.Omega.{arith}
 use borrow.Author.Tests.{eq-eqb, ne_eqb, eqb-true, eqb-false}
 use lib.Dec.{eqb}
 use lib.ListN.{length, get_or, replicate, get_or-eq_default}
+use lib.Ieee.{binary32, of_bits}
 use Rattle.std.proofs.lemmas.Bool.Decides.{nat_tests}
+use Rattle.std.proofs.Common.{Option, Some, None, Bor}
+use Rattle.std.specs.Option.{UnwrapsOrElse, option_copied}
+use Rattle.std.specs.Slice.{IsItemAt}
 use Rattle.common.specs.declared.weather.Weather.{Weather}
 use Rattle.common.specs.Weather.{calm, WeatherIn}
 use Rattle.common.specs.Loops.{table, every, first_bad}
 use Rattle.common.proofs.Limits.{by_test, both, parts}
 use Rattle.common.proofs.amounts.AmountLaws.{get_or_repeat}
 use Rattle.common.proofs.Loops.{table_length, table_in, table_past, filled_same, sum_same, sum_bound, every_in, every_at, first_bad_same, first_bad_found}
+use Rattle.forcing.specs.declared.list.Reading.TheVariants.{Missing}
 use Rattle.forcing.specs.declared.list.Line.{Line}
 use Rattle.forcing.specs.List.{Forcing}
-use Rattle.forcing.specs.List.{line_at, weather_of, line_inside, Inside, is_inside, estimated_of}
+use Rattle.forcing.specs.List.{blank, line_at, weather_of, line_inside, Inside, is_inside, estimated_of}
 use Rattle.forcing.specs.List.{line_number, first_bad_line, accepted, refusal, judged_lines, reading, ForFirstBad, JudgedList}
 use Rattle.forcing.proofs.list.LineLaws.{estimated_one, line_test, rain_first, line_weather}
+
+-- ---- where there is no line
+
+pub default_blank : {l : Line} → (l.rain ≡ Missing) × (l.pan ≡ of_bits binary32 0) → l ≡ blank
+default_blank h = rw (h.0, h.1)
+
+-- a line that is read by its number, and the default past the end
+pub line_read : (lines : List Line) (k : ℕ) {l : Line} (r : Option (Bor Line)) {o : Option Line}
+    → UnwrapsOrElse o (λ l. (l.rain ≡ Missing) × (l.pan ≡ of_bits binary32 0)) l → o ≡ option_copied r → IsItemAt lines k r → l ≡ line_at lines k
+line_read lines k None u e h = default_blank (rw e at u) ∙ h.4 (le_refl k) blank
+line_read lines k (Some x) u e h = rw e at u ∙ h.4 (le_refl k) blank
 
 -- ---- inside the limits
 

@@ -3,11 +3,11 @@ use Rattle.basin.proofs.step.JudgedLaws.{err_keeps}
 use Rattle.basin.proofs.week.WeekLaws.{count_in}
 use Rattle.std.specs.declared.slice.ChunksExact.{ChunksExact}
 use Rattle.forcing.specs.declared.list.Line.{Line}
-use Rattle.week.proofs.GoingLaws.{going_begun, going_few, going_count, going_fits, going_on, going_stopped, going_end, going_refused}
+use Rattle.week.proofs.GoingLaws.{default_week, going_begun, going_few, going_count, going_fits, going_on, going_stopped, going_end, going_refused}
 use Rattle.week.proofs.week_with.Goals as goal
 
 pub returns-in-Err : goal.returns-in-Err
-returns-in-Err c = going_refused c.in-Err.ensures.refuses c.into.ensures
+returns-in-Err c = rw (default_week _ c.default-week.ensures) (going_refused c.in-Err.ensures.refuses c.into.ensures)
 
 pub chunks_exact-step-items-requires : goal.chunks_exact-step-items-requires
 chunks_exact-step-items-requires c = (count_in _ c.in_default.ensures.fits.allowed).0
@@ -17,7 +17,7 @@ loop-step-init c =
     let e = c.into_iter-step-iterator.ensures.into_iter_gives in
     let n = ap (λ (i : ChunksExact Line). i.size) e ∙ c.chunks_exact-step-items.ensures.size in
     let rest = ap (λ (i : ChunksExact Line). i.rest.now) e ∙ c.chunks_exact-step-items.ensures.rest in
-    (omega (arith, n, count_in _ c.in_default.ensures.fits.allowed), tt, going_begun c.in_default.ensures.fits n rest)
+    (omega (arith, n, count_in _ c.in_default.ensures.fits.allowed), tt, rw (default_week _ c.default-week.ensures) (going_begun c.in_default.ensures.fits n rest))
 
 pub lines_of-requires : goal.lines_of-requires
 lines_of-requires c = going_few c.loop-step.invariant.2 _ _ c.in-Some.ensures.steps.1

@@ -1,23 +1,26 @@
 use mathlib.Core.Path.{◌≡◌, ap, sym, ◌∙◌}
 use mathlib.Core.List.{List}
-use Prim.Native.Nat.{ℕ, ◌+◌, ◌≤◌, ◌<◌}
+use Prim.Native.Nat.{ℕ, suc, ◌+◌, ◌≤◌, ◌<◌}
+use native.Mathlib.Decide.{dec_le}
 use native.Mathlib.Numerals.{add-one}
 use native.Mathlib.Omega.{arith}
 use borrow.Author.Tests.{eq-eqb, ne_eqb}
-use lib.ListN.{length, get_or, set, get_or-eq_default}
+use lib.ListN.{length, set, get_or-eq_default}
+use Rattle.std.proofs.Common.{rules, tests}
+use Rattle.std.proofs.lemmas.Result.{IfOk-at_ok, IfErr-at_err, err_from_is_err_and}
 use Rattle.common.specs.declared.refusal.Refusal.{Refusal}
-use Rattle.common.specs.declared.refusal.Refusal.TheVariants.{RainMissing}
+use Rattle.common.specs.declared.refusal.Refused.{Refused}
 use Rattle.common.specs.declared.weather.Weather.{Weather}
 use Rattle.common.specs.Refusals.{number_of}
 use Rattle.common.proofs.Refusals.{number_some}
-use Rattle.common.proofs.amounts.AmountLaws.{get_or_within}
+use Rattle.common.proofs.Mapped.{mapped_ok, mapped_err}
 use Rattle.common.proofs.Loops.{fill_begin, fill_turn, fill_end, seek_begin, seek_turn, seek_found, seek_end}
 use Rattle.common.proofs.Loops.{add_begin, add_turn, add_end, sum_bound}
 use Rattle.forcing.specs.declared.list.Line.{Line}
 use Rattle.forcing.specs.List.{Forcing}
 use Rattle.forcing.specs.List.{blank, line_at, weather_of, estimated_of, line_number, refusal, judged_lines, reading, JudgedList}
 use Rattle.forcing.proofs.list.LineLaws.{blank_number, estimated_one}
-use Rattle.forcing.proofs.list.ReadLaws.{miscounted, reading_judged}
+use Rattle.forcing.proofs.list.ReadLaws.{line_read, miscounted, reading_judged}
 use Rattle.forcing.proofs.list.read.Invariants.{Before}
 use Rattle.forcing.proofs.list.read.Goals as goal
 
@@ -45,46 +48,61 @@ module _ {lines : List Line} {count n : ℕ} {weather : List Weather} {estimated
       let bad : number_of why ≡ 0 → ⊥ = λ z. omega (arith, number_some why) in
       rw (eq-eqb count n counted, seek_found b.seeking h (λ z. bad (e ∙ z)), ← e, ne_eqb (number_of why) 0 bad, add-one at)
 
-  module _ (len : length lines ≡ 32) (h : at < n) where
-    missing : 31 < at → refusal 6 (at + 1) ≡ reading lines count n
-    missing k = stops h RainMissing (sym (ap line_number (get_or-eq_default lines blank {n = at} (omega arith)) ∙ blank_number))
+  -- the line that is read
+  module _ (h : at < n) {line : Line} (is : line ≡ line_at lines at) where
+    found : (why : Refusal) → number_of why ≡ line_number line → refusal (number_of why) (at + 1) ≡ reading lines count n
+    found why e = stops h why (e ∙ ap line_number is)
 
-    -- it is judged
-    module _ (within : at ≤ 31) (other : Line) where
-      here : get_or lines at other ≡ line_at lines at
-      here = get_or_within lines at other blank (omega arith)
+    -- it is none past the 32nd
+    within : length lines ≡ 32 → line_number line ≡ 0 → at < 32
+    within long good = go (dec_le (suc at) 32)
+      where
+        go : Dec (at < 32) → at < 32
+        go (yes l) = l
+        go (no l) =
+            let none : line_at lines at ≡ blank = get_or-eq_default lines blank {n = at} (omega arith) in
+            absurd (omega (arith, good, ap line_number (is ∙ none), blank_number))
 
-      found : (why : Refusal) → number_of why ≡ line_number (get_or lines at other) → refusal (number_of why) (at + 1) ≡ reading lines count n
-      found why e = stops h why (e ∙ ap line_number here)
-
-      turn : {w : Weather} {m : ℕ} → (line_number (get_or lines at other) ≡ 0) × (w ≡ weather_of (get_or lines at other))
-          → m ≡ estimated_of (get_or lines at other).rain → Before lines n (set weather at w) (estimated + m) (at + 1)
-      turn good e =
-          record {
-            filling = fill_turn b.filling h (good.1 ∙ ap weather_of here);
-            seeking = seek_turn b.seeking h (ap line_number (sym here) ∙ good.0);
-            adding = add_turn b.adding h (e ∙ ap (λ (l : Line). estimated_of l.rain) here);
-          }
+    turn : {w : Weather} {m : ℕ} → (line_number line ≡ 0) × (w ≡ weather_of line) → m ≡ estimated_of line.rain
+        → Before lines n (set weather at w) (estimated + m) (at + 1)
+    turn good e =
+        record {
+          filling = fill_turn b.filling h (good.1 ∙ ap weather_of is);
+          seeking = seek_turn b.seeking h (ap line_number (sym is) ∙ good.0);
+          adding = add_turn b.adding h (e ∙ ap (λ (l : Line). estimated_of l.rain) is);
+        }
 
 pub returns-then-count-n : goal.returns-then-count-n
 returns-then-count-n c = answered _ _ _ (rw c.into.ensures (sym (miscounted c.args.lines _ _ c.if-count-n.true)))
 
 pub loop-at-init : goal.loop-at-init
-loop-at-init c = record { filling = fill_begin; seeking = seek_begin; adding = add_begin }
+loop-at-init c = record { filling = rw (c.default-weather.ensures.0, c.default-weather.ensures.1) fill_begin; seeking = seek_begin; adding = add_begin }
 
-pub returns-then-at-gt31 : goal.returns-then-at-gt31
-returns-then-at-gt31 c =
-    answered _ _ _ (missing c.loop-at.invariant c.if-count-n.false c.well_formed.0.1.0.1 c.loop-at-test.true c.if-at-gt31.true)
-
-pub returns-in-Err : goal.returns-in-Err
-returns-in-Err c =
+pub returns-in_err-weather : goal.returns-in_err-weather
+returns-in_err-weather c =
+    let bad = mapped_err c.judge_line.result _ _ c.in_err-weather.ensures.variant c.in_err-weather.ensures.cases in
+    let told : c.in_err-weather.field-0.0 ≡ record { why = bad.0; place = c.loop-at.at + 1 } = search (rules, tests, bad.2) in
+    let p = err_from_is_err_and c.from_residual.result c.from_residual.ensures.1 in
     answered _ _ _
-    (found c.loop-at.invariant c.if-count-n.false c.well_formed.0.1.0.1 c.loop-at-test.true c.if-at-gt31.false _ c.in-Err.why c.in-Err.ensures.bad)
+    (rw (p.1, p.2, told)
+    (found c.loop-at.invariant c.if-count-n.false c.loop-at-test.true (line_read _ _ _ c.unwrap_or_default-line.ensures c.copied.ensures c.get.ensures.lookup) bad.0
+    (IfErr-at_err _ bad.1 c.judge_line.ensures.bad)))
+
+pub bounds-weather-at : goal.bounds-weather-at
+bounds-weather-at c =
+    let good = mapped_ok Refused c.judge_line.result _ c.in_ok-weather.ensures.variant c.in_ok-weather.ensures.cases in
+    within c.loop-at.invariant c.if-count-n.false c.loop-at-test.true
+    (line_read _ _ _ c.unwrap_or_default-line.ensures c.copied.ensures c.get.ensures.lookup) c.well_formed.0.1.0.1 (IfOk-at_ok _ good c.judge_line.ensures.good).0
+
+pub offset_bounds-weather-at : goal.offset_bounds-weather-at
+offset_bounds-weather-at c = omega (arith, bounds-weather-at c)
 
 pub loop-at-preserved : goal.loop-at-preserved
 loop-at-preserved c =
-    turn c.loop-at.invariant c.if-count-n.false c.well_formed.0.1.0.1 c.loop-at-test.true c.if-at-gt31.false _
-    c.in-Ok.ensures.good (c.from-estimated.ensures ∙ c.is_estimated.ensures)
+    let good = mapped_ok Refused c.judge_line.result _ c.in_ok-weather.ensures.variant c.in_ok-weather.ensures.cases in
+    turn c.loop-at.invariant c.if-count-n.false c.loop-at-test.true
+    (line_read _ _ _ c.unwrap_or_default-line.ensures c.copied.ensures c.get.ensures.lookup)
+    (IfOk-at_ok _ good c.judge_line.ensures.good) (c.from.ensures ∙ c.is_estimated.ensures)
 
 pub overflow_add-estimated : goal.overflow_add-estimated
 overflow_add-estimated c = omega (arith, few (loop-at-preserved c))
