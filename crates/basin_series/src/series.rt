@@ -1,9 +1,9 @@
 // A series of steps, each on the basin that the one before handed back, folded into a checksum.
 use crate::faults;
 use basin::state::Basin;
-use basin::step::{Report, ZEROS};
+use basin::step::Report;
 use basin_testing::checksum::add_basin;
-use basin_testing::{calls, weather};
+use basin_testing::weather;
 use common::refusal::Refused;
 use std::io;
 use testing::chance::Chance;
@@ -39,14 +39,14 @@ pub fn run(
 // Every number of an answer: number and place, the report, the basin.
 pub fn add(sum: &mut Checksum, given: &Result<Report, Refused>, after: &Basin) {
     sum.add_row(&refusals::told(given));
-    sum.add_row(&calls::of_report(&given.unwrap_or(ZEROS)));
+    sum.add_row(&given.unwrap_or_default().numbers());
     add_basin(sum, after);
 }
 
 // A step as the program prints it: document 01, "What the program prints".
 pub fn print(rt: &impl Print, i: u64, given: &Result<Report, Refused>) -> io::Result<()> {
     match given {
-        Ok(report) => println!(rt; "{i} ok{}", Row(&calls::of_report(report))),
+        Ok(report) => println!(rt; "{i} ok{}", Row(&report.numbers())),
         Err(refused) => println!(rt; "{i} refused {} {}", refused.why.number(), refused.place),
     }
 }

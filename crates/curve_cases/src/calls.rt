@@ -9,16 +9,16 @@ use testing::refusals;
 
 #[derive(Clone, Copy)]
 pub enum Call {
-    // t.
+    // Of t.
     Root(u64),
     RootByTable(u64),
-    // t and e.
+    // Of t and e.
     Power(u64, u64),
     PowerByTable(u64, u64),
-    // And a, and w.
+    // At a, and for w.
     Held(Curve, u64),
     Ordinate(Curve, u64),
-    // And the inflow.
+    // With an inflow.
     Store(Store, u64),
 }
 

@@ -50,9 +50,10 @@ pub fn good() -> [Line; 32] {
         let rain = f32_from_bits_with_nan(0x3d80_0000 + k * 3400000);
         let pan = f32_from_bits_with_nan(0x3d80_0000 + (31 - k) * 2700000);
         Line {
-            rain: match k % 3 {
-                2 => Reading::Estimated(rain),
-                _ => Reading::Measured(rain),
+            rain: if k % 3 == 2 {
+                Reading::Estimated(rain)
+            } else {
+                Reading::Measured(rain)
             },
             pan,
         }
@@ -64,20 +65,22 @@ pub fn any(chance: &mut Chance) -> [Line; 32] {
     let chosen = chosen();
     array::from_fn(|_| {
         let [x, y, z] = chance.draws::<3>();
-        match x % 64 {
-            0 => chance::one_of(chosen, y),
-            _ => drawn(x / 64, y, z),
+        if x % 64 == 0 {
+            chance::one_of(chosen, y)
+        } else {
+            drawn([x, y, z])
         }
     })
 }
 
-fn drawn(kind: u64, y: u64, z: u64) -> Line {
+fn drawn([x, y, z]: [u64; 3]) -> Line {
     let rain = f32_from_bits_with_nan((0x3800_0000 + y % 209321985) as u32);
     let pan = f32_from_bits_with_nan((0x3800_0000 + z % 180879361) as u32);
     Line {
-        rain: match kind % 2 {
-            0 => Reading::Measured(rain),
-            _ => Reading::Estimated(rain),
+        rain: if x / 64 % 2 == 0 {
+            Reading::Measured(rain)
+        } else {
+            Reading::Estimated(rain)
         },
         pan,
     }

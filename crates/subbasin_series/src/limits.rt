@@ -10,7 +10,7 @@ use testing::refusals;
 pub fn places(rt: &impl Print, record: SubBasin) -> io::Result<()> {
     let call = Call {
         record,
-        weather: Weather { rain: 0, pan: 0 },
+        weather: Weather::default(),
     };
     for place in 0..calls::PLACES {
         line(rt, &call, place)?;

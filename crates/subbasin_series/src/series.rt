@@ -18,7 +18,7 @@ pub fn run(
 ) -> io::Result<Checksum> {
     let mut call = Call {
         record: start,
-        weather: Weather { rain: 0, pan: 0 },
+        weather: Weather::default(),
     };
     let mut sum = Checksum::default();
     for i in 0..count {

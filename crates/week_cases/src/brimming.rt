@@ -34,10 +34,9 @@ fn row(
     brim.fill(&mut full);
     for long in LENGTHS {
         let mut b = full;
-        let mut buffer = list::BUFFER;
-        let lines = list::drawn(&mut buffer, long, chance);
+        let lines = list::drawn(long, chance);
         print!(rt; "{shape} {brim} {long}")?;
-        told.week(rt, &mut b, lines)?;
+        told.week(rt, &mut b, &lines)?;
         print!(rt; "{shape} {brim} 0")?;
         told.week(rt, &mut b, &[])?;
     }

@@ -24,10 +24,9 @@ pub fn rows(rt: &impl Print) -> io::Result<()> {
     for (n, m, lengths) in LISTS {
         for long in lengths {
             let mut b = calls::started(Plan::chain(Choice::Ordinary, n, m), &mut chance);
-            let mut buffer = list::BUFFER;
-            let lines = list::drawn(&mut buffer, long, &mut chance);
+            let lines = list::drawn(long, &mut chance);
             print!(rt; "list {n} {m} {long}")?;
-            told.week(rt, &mut b, lines)?;
+            told.week(rt, &mut b, &lines)?;
         }
     }
     println!(rt; "lists {told}")

@@ -1,6 +1,7 @@
 // Lists that mix week calls with single steps, on basins of every shape; beside each runs a second basin that takes every step singly.
+use crate::list::{self, List};
 use crate::told::Told;
-use crate::{list, singly, told};
+use crate::{singly, told};
 use basin::state::Basin;
 use basin::week::Week;
 use basin_testing::weather::Fault;
@@ -66,18 +67,17 @@ impl Mixed {
             Way::Step => n,
             _ => length(n, y / 8, z),
         };
-        let mut buffer = list::BUFFER;
-        let lines = list::drawn(&mut buffer, long as usize, chance);
-        spoil(lines, [y, z]);
+        let mut lines = list::drawn(long as usize, chance);
+        spoil(&mut lines, [y, z]);
         let ran = match way {
-            Way::Step => singly::steps(&mut self.basin, lines),
-            Way::Week => week::week(&mut self.basin, lines),
+            Way::Step => singly::steps(&mut self.basin, &lines),
+            Way::Week => week::week(&mut self.basin, &lines),
             Way::Astray => {
-                self.astray(lines, [y, z]);
+                self.astray(&lines, [y, z]);
                 return Ok(());
             }
         };
-        self.go_on(rt, i, &ran, lines)
+        self.go_on(rt, i, &ran, &lines)
     }
 
     // Every eighth list is printed.
@@ -114,7 +114,7 @@ fn length(n: u64, y: u64, z: u64) -> u64 {
 }
 
 // Of one list in three two lines are bad, among its own and the one past them.
-fn spoil(lines: &mut [Line], [y, z]: [u64; 2]) {
+fn spoil(lines: &mut List, [y, z]: [u64; 2]) {
     if z / 8 % 3 != 0 {
         return;
     }

@@ -22,11 +22,10 @@ pub fn rows(rt: &impl Print) -> io::Result<()> {
         for (k, edge) in Edge::NEAR.into_iter().enumerate() {
             for long in LENGTHS {
                 let mut b = calls::started(Plan::chain(Choice::Ordinary, 2, 1), &mut chance);
-                let mut buffer = list::BUFFER;
-                let lines = list::drawn(&mut buffer, long, &mut chance);
+                let lines = list::drawn(long, &mut chance);
                 places::put_edge(&mut b, place, edge);
                 print!(rt; "place {place} {k} {long}")?;
-                told.week(rt, &mut b, lines)?;
+                told.week(rt, &mut b, &lines)?;
             }
         }
     }

@@ -16,11 +16,10 @@ pub fn rows(rt: &impl Print) -> io::Result<()> {
         for step in [1, 3, 5] {
             for line in [1, 3] {
                 let mut b = calls::started(Plan::chain(Choice::Ordinary, 3, 2), &mut chance);
-                let mut buffer = list::BUFFER;
-                let lines = list::drawn(&mut buffer, 15, &mut chance);
-                list::spoil(lines, 3 * (step - 1) + line - 1, fault);
+                let mut lines = list::drawn(15, &mut chance);
+                list::spoil(&mut lines, 3 * (step - 1) + line - 1, fault);
                 print!(rt; "bad line {k} {step} {line}")?;
-                told.week(rt, &mut b, lines)?;
+                told.week(rt, &mut b, &lines)?;
             }
         }
     }

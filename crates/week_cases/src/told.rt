@@ -2,7 +2,7 @@
 use crate::singly;
 use basin::state::Basin;
 use basin::week::Week;
-use basin_testing::{calls, checksum};
+use basin_testing::checksum;
 use forcing::list::Line;
 use std::{fmt, io};
 use testing::checksum::Checksum;
@@ -49,7 +49,7 @@ impl fmt::Display for Told {
 fn add(sum: &mut Checksum, ran: &Week, after: &Basin) {
     sum.add_row(&refusal_of(ran));
     sum.add(ran.count);
-    sum.add_row(&calls::of_report(&ran.report));
+    sum.add_row(&ran.report.numbers());
     checksum::add_basin(sum, after);
 }
 
@@ -58,7 +58,7 @@ pub fn print(rt: &impl Print, ran: &Week, after: &Basin) -> io::Result<()> {
         "{} {}{} {}",
         Row(&refusal_of(ran)),
         ran.count,
-        Row(&calls::of_report(&ran.report)),
+        Row(&ran.report.numbers()),
         checksum::of_basin(after)
     )
 }
