@@ -49,7 +49,7 @@ fn main(rt: HostRuntime) -> io::Result<()> {
     Ok(())
 }
 
-// By its first letter, and so the state.
+// By its first letter, and so the state; any other word is idle, and as drawn.
 impl From<&str> for Way {
     fn from(word: &str) -> Way {
         match word.as_bytes() {

@@ -44,40 +44,29 @@ pub fn rows(rt: &impl Print) -> io::Result<()> {
     Ok(())
 }
 
-// How a list is taken.
-#[derive(Clone, Copy)]
-enum Way {
-    Step,
-    Week,
-    // A week on a basin with one number outside its range; the list goes on from the basin before.
-    Astray,
-}
-
 impl Mixed {
-    // Of eight lists two are single steps and one is astray.
+    // Of eight lists two are single steps, and one is a week on a basin with one number outside its range; the series then goes on from the
+    // basin before.
     fn turn(&mut self, rt: &impl Print, i: u64, chance: &mut Chance) -> io::Result<()> {
         let n = self.basin.n % 33;
         let [y, z] = chance.draws::<2>();
-        let way = match y % 8 {
-            0 | 1 => Way::Step,
-            2 => Way::Astray,
-            _ => Way::Week,
-        };
-        let long = match way {
-            Way::Step => n,
-            _ => length(n, y / 8, z),
-        };
-        let mut lines = list::drawn(long as usize, chance);
-        spoil(&mut lines, [y, z]);
-        let ran = match way {
-            Way::Step => singly::steps(&mut self.basin, &lines),
-            Way::Week => week::week(&mut self.basin, &lines),
-            Way::Astray => {
-                self.astray(&lines, [y, z]);
-                return Ok(());
+        let long = length(n, y / 8, z);
+        match y % 8 {
+            0 | 1 => {
+                let lines = drawn(n, [y, z], chance);
+                let ran = singly::steps(&mut self.basin, &lines);
+                self.go_on(rt, i, &ran, &lines)
             }
-        };
-        self.go_on(rt, i, &ran, &lines)
+            2 => {
+                self.astray(&drawn(long, [y, z], chance), [y, z]);
+                Ok(())
+            }
+            _ => {
+                let lines = drawn(long, [y, z], chance);
+                let ran = week::week(&mut self.basin, &lines);
+                self.go_on(rt, i, &ran, &lines)
+            }
+        }
     }
 
     // Every eighth list is printed.
@@ -114,13 +103,14 @@ fn length(n: u64, y: u64, z: u64) -> u64 {
 }
 
 // Of one list in three two lines are bad, among its own and the one past them.
-fn spoil(lines: &mut List, [y, z]: [u64; 2]) {
-    if z / 8 % 3 != 0 {
-        return;
+fn drawn(long: u64, [y, z]: [u64; 2], chance: &mut Chance) -> List {
+    let mut lines = list::drawn(long as usize, chance);
+    if z / 8 % 3 == 0 {
+        let ends = lines.len() as u64 + 1;
+        let first = (y / 128 % ends) as usize;
+        let second = (z / 512 % ends) as usize;
+        list::spoil(&mut lines, first, chance::one_of(Fault::ALL, z / 32));
+        list::spoil(&mut lines, second, chance::one_of(Fault::ALL, y / 1024));
     }
-    let ends = lines.len() as u64 + 1;
-    let first = (y / 128 % ends) as usize;
-    let second = (z / 512 % ends) as usize;
-    list::spoil(lines, first, chance::one_of(Fault::ALL, z / 32));
-    list::spoil(lines, second, chance::one_of(Fault::ALL, y / 1024));
+    lines
 }

@@ -60,7 +60,7 @@ fn main(rt: HostRuntime) -> io::Result<()> {
     Ok(())
 }
 
-// By its first letter.
+// By its first letter; any other word is idle.
 impl From<&str> for Way {
     fn from(word: &str) -> Way {
         match word.as_bytes() {
