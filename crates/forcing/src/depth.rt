@@ -49,8 +49,8 @@ pub fn depth_of(x: f32, said: Gauge) -> Result<u64, Refusal>
     judge_bits(x.to_bits(), said)
 }
 
-// Sign, exponent and fraction are taken from the 32 bits, by document 01's shifts and masks. The number is significand / 2^places: the fraction over 2^149 where
-// the exponent is 0, and otherwise the fraction with a leading digit before it, over 2^(150 - exponent).
+// Sign, exponent and fraction are taken from the 32 bits, by document 01's shifts and masks. The number is significand / 2^places: the
+// fraction over 2^149 where the exponent is 0, and otherwise the fraction with a leading digit before it, over 2^(150 - exponent).
 #[tactic(auto, using(crate::proofs::depth::ValueLaws::bits_laws))]
 fn judge_bits(bits: u32, said: Gauge) -> Result<u64, Refusal>
     ensures { as_depth result ≡ depth_call (of_bits binary32 bits) said }

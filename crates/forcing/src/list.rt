@@ -62,7 +62,7 @@ pub fn read(lines: [Line; 32], count: u64, n: u64) -> Result<Readings, Refused>
 }
 
 // Rain before pan.
-#[tactic(auto, using(crate::proofs::list::LineLaws::first_bad_lem))]
+#[tactic(auto, using(crate::proofs::list::LineLaws::first_refuses))]
 fn judge_line(line: Line) -> Result<Weather, Refusal>
     ensures good { IfOk result (λ w. (line_number line ≡ 0) × (w ≡ weather_of line)) }
     ensures bad { IfErr result (λ why. number_of why ≡ line_number line) }

@@ -85,10 +85,13 @@ module _ (l : Line) where
   number_is = rw (rain_number_is l.rain, call_number l.pan Pan)
 
   -- the three ways out of `judge_line`, with the depths d and e
-  pub first_bad_lem : (why : Refusal) → answer (refusal_number why) 0 ≡ first → refusal_number why ≡ line_number l
-  first_bad_lem why p =
-      let n = ap (λ (p : Depth). p.number) p in
-      sym (number_is ∙ rw (← n, ne_eqb (refusal_number why) 0 (λ z. omega (arith, number_some why))))
+  pub first_bad_lem : {p : Depth} → p ≡ first → (p.number ≡ 0 → ⊥) → p.number ≡ line_number l
+  first_bad_lem {p} e bad =
+      let n = ap (λ (p : Depth). p.number) e in
+      sym (number_is ∙ rw (← n, ne_eqb p.number 0 bad))
+
+  pub first_refuses : (why : Refusal) → answer (refusal_number why) 0 ≡ first → refusal_number why ≡ line_number l
+  first_refuses why p = first_bad_lem p (λ z. omega (arith, z, number_some why))
 
   module _ (d : ℕ) (p : answer 0 d ≡ first) where
     second_number : second.number ≡ line_number l
