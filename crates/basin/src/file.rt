@@ -44,7 +44,7 @@ pub fn load(bytes: &[u8]) -> Result<Basin, Refused>
     if size != 4 * (after_subs + Reach::WORDS * m) {
         return Err(Refusal::Length.into());
     }
-    let mut subs = [SubBasin::from([0; record::WORDS]); 32];
+    let mut subs = [SubBasin::default(); 32];
     read_all(bytes, 2, n, m, &mut subs)?;
     let mut reaches = [Reach::default(); 31];
     read_all(bytes, after_subs, m, m, &mut reaches)?;

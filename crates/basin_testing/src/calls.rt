@@ -2,7 +2,7 @@
 use basin::file;
 use basin::reach::Reach;
 use basin::state::Basin;
-use subbasin::record::{self, SubBasin};
+use subbasin::record::SubBasin;
 use testing::chance::Chance;
 use testing::choices::Choice;
 use testing::drafts::Plan;
@@ -12,7 +12,7 @@ pub fn empty() -> Basin {
     Basin {
         n: 0,
         m: 0,
-        subs: [SubBasin::from([0; record::WORDS]); 32],
+        subs: [SubBasin::default(); 32],
         reaches: [Reach::default(); 31],
     }
 }

@@ -13,6 +13,7 @@ use Rattle.basin.specs.Account.{Demand3}
 use Rattle.basin.proofs.Account.{demand_3}
 use Rattle.basin.proofs.file.FileLaws.{load_short, load_n, load_m, load_size, load_sub, load_reach, load_all, subs_table, reaches_table}
 use Rattle.basin.proofs.file.LoadedLaws.{accepts, holds}
+use Rattle.subbasin.proofs.record.RecordLaws.{default_blank}
 use Rattle.basin.proofs.file.load.Goals as goal
 
 -- the answer's equation, and with it all that the contract says
@@ -67,4 +68,4 @@ returns c =
     let reaches = c.in_ok-read_all-2.ensures in
     answered _ (Ok _)
     (load_all _ c.if-size-lt-LEAST_BYTES.false c.word-n.ensures.0 (omega arith) (omega arith) c.word-m.ensures.0 (omega arith)
-    c.if-size-after_subs.false subs.0 reaches.0 (subs_table _ _ c.from-subs.ensures subs.1) (reaches_table _ _ _ _ c.default-reaches.ensures reaches.1))
+    c.if-size-after_subs.false subs.0 reaches.0 (subs_table _ _ (default_blank _ c.default-subs.ensures) subs.1) (reaches_table _ _ _ _ c.default-reaches.ensures reaches.1))
