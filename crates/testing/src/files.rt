@@ -84,6 +84,7 @@ impl File {
             }
         }
     }
+
     // The file with a word at an edge of its range.
     pub fn edged(&self, at: usize, edge: Edge) -> File {
         let mut other = *self;
