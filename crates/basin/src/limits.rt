@@ -5,6 +5,7 @@ ghost use Rattle.basin.specs.Workers.{CountsIn, records_in};
 
 use crate::state::{Basin, MOST_REACHES, MOST_SUBS};
 
+// That the counts are inside is asked for, and is no fact of the type, as 9 judges what a host hands in.
 impl Basin {
     // Whether all is inside its limits but the sub-basins in use, which their own steps judge.
     pub(crate) fn others_allowed(&self) -> bool

@@ -67,7 +67,8 @@ impl Way {
     // The last answer of a chain.
     fn last(self, roots: &Roots, count: u32) -> u64 {
         match self {
-            Way::Idle => chain(count, |i, r| argument(i, r)),
+            // Without the last bit turned the compiler would sum the chain up.
+            Way::Idle => chain(count, |i, r| argument(i, r) ^ 1),
             Way::Newton => chain(count, |i, r| {
                 capacity::root(&Newton, argument(i, r)).unwrap_or(0)
             }),

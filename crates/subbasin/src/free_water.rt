@@ -15,6 +15,7 @@ pub struct Drained {
     pub g: u64,
 }
 
+// Of words inside their ranges, as in `soil`.
 impl Parameters {
     // The greatest point capacity of free water, MS.
     #[tactic(auto, unfolding(crate::specs::FreeWater::ms))]

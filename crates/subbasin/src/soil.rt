@@ -74,6 +74,7 @@ impl Layers {
     }
 }
 
+// Of words inside their ranges, which are asked for here, as a `Ground` is made by these.
 impl Parameters {
     // What all layers hold, WM.
     pub(crate) fn wm(&self) -> u64
