@@ -143,7 +143,7 @@ fn read_all<R: Record>(
     requires { (n ≤ 32) × (n ≤ length records.old) × (start ≤ 1000) }
     ensures { ReadOf start R.WORDS (λ i. R.stored bytes.now (start + R.WORDS * i)) (λ i. R.words m (suc i) (R.stored bytes.now (start + R.WORDS * i))) n records.old records.new result }
 {
-    // By index: `(0..n).zip(records)` would lend the records, of which a proof then knows nothing.
+    // By index: `(0..n).zip(records)` (tried) lends the records, of which a proof then knows nothing.
     for i in 0..n {
         let at = start + R::WORDS * i;
         let record = R::read(bytes, at);

@@ -5,7 +5,7 @@ ghost use Rattle.basin.specs.Workers.{CountsIn, records_in};
 
 use crate::state::{Basin, MOST_REACHES, MOST_SUBS};
 
-// That the counts are inside is asked for, and is no fact of the type, as 9 judges what a host hands in.
+// Each but the first asks that N and M are inside their limits: no fact of the type, as 9 judges what a host hands in.
 impl Basin {
     // Whether all is inside its limits but the sub-basins in use, which their own steps judge.
     pub(crate) fn others_allowed(&self) -> bool
@@ -14,7 +14,7 @@ impl Basin {
         self.counts_allowed() && self.records_allowed()
     }
 
-    // Whether the sub-basins in use are.
+    // Whether the sub-basins in use are inside their limits.
     pub(crate) fn subs_used(&self) -> bool
         requires { CountsIn self.now.n self.now.m }
         ensures { result ≡ subs_used self.now.m self.now.n self.now.subs }

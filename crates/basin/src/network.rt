@@ -34,7 +34,8 @@ pub fn route(reaches: &mut [Reach; 31], pending: &mut [u64; 32], m: u64) -> Rout
 }
 
 impl Reach {
-    // Takes the inflow, and hands back the outflow.
+    // Takes the inflow, and hands back the outflow. As `pass` of `subbasin` with other shares: one for both would be public in `curve`, and ask
+    // something of its caller.
     fn pass(&mut self, inflow: u64) -> u64
         requires { Passing self.old inflow }
         ensures { (self.new ≡ reach_after self.old inflow) × (result ≡ reach_out self.old inflow) }

@@ -6,7 +6,7 @@ use crate::reach::Reach;
 use subbasin::record::SubBasin;
 
 // N sub-basins and M reaches, in fixed arrays, as there is no heap; the records past them are zero, which 9 judges.
-#[derive(Clone, Copy)]
+#[derive(Clone, Copy, Default)]
 pub struct Basin {
     pub n: u64,
     pub m: u64,

@@ -1,5 +1,5 @@
 // One step of the basin: document 01, "One sub-basin, one step", "The store law" and "The forcing list".
-ghost use Rattle.std.specs.Prelude.{◌≡◌, true, cond, ◌≤◌};
+ghost use Rattle.std.specs.Prelude.{◌≡◌, true, cond};
 ghost use Rattle.common.specs.Weather.{WeatherIn};
 ghost use Rattle.forcing.specs.List.{as_forcing};
 ghost use Rattle.basin.specs.Limits.{others_in, basin_in};

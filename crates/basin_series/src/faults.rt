@@ -13,7 +13,7 @@ pub struct Call {
     pub count: u64,
 }
 
-// One of 24 faults, drawn: 5 of the count, 9 of a line, and otherwise of the basin.
+// One of 24 faults, drawn: 5 of the count, 9 of a line, and otherwise of the basin, twice with another.
 pub fn astray(b: &Basin, lines: &[Line; 32], chance: &mut Chance) -> Call {
     let k = chance.x % 24;
     let [x, y] = chance.draws::<2>();

@@ -1,25 +1,13 @@
 // Loaded basins.
 use basin::file;
-use basin::reach::Reach;
 use basin::state::Basin;
-use subbasin::record::SubBasin;
 use testing::chance::Chance;
 use testing::choices::Choice;
 use testing::drafts::Plan;
 
-// The basin that a refused load stands for.
-pub fn empty() -> Basin {
-    Basin {
-        n: 0,
-        m: 0,
-        subs: [SubBasin::default(); 32],
-        reaches: [Reach::default(); 31],
-    }
-}
-
-// The basin of a drafted file.
+// The basin of a drafted file. A refused load stands for zeros.
 pub fn started(plan: Plan, chance: &mut Chance) -> Basin {
-    file::load(plan.draft(chance).as_slice()).unwrap_or(empty())
+    file::load(plan.draft(chance).as_slice()).unwrap_or_default()
 }
 
 // Of case A of document 01.

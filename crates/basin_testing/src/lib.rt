@@ -1,5 +1,4 @@
-// What the test programs of `basin` share: its calls and their answers as numbers, a basin's numbers by place and its checksum, and drawn
-// lines.
+// What the test programs of `basin` share: loaded basins, a basin's numbers by place and its checksum, and drawn lines.
 #![tactic(auto)]
 
 pub mod calls;

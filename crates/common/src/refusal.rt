@@ -83,7 +83,7 @@ pub struct Refused {
     pub place: u64,
 }
 
-// A refusal without a place of its own has place 0.
+// A refusal without a place of its own has place 0, as document 01 has it.
 impl From<Refusal> for Refused {
     ghost from_gives = { λ why r. r ≡ record { why = why; place = 0 } };
 

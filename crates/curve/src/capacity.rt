@@ -1,5 +1,5 @@
 // The capacity curve: document 01, "The capacity curve". Shares are in parts of 65,536, capacities in µm.
-ghost use Rattle.std.specs.Prelude.{◌≡◌, ◌↔◌, IsTrue, ◌+◌, ◌≤◌, ◌<◌};
+ghost use Rattle.std.specs.Prelude.{◌≡◌, ◌↔◌, IsTrue, ◌≤◌};
 ghost use Rattle.common.specs.Shares.{one};
 ghost use Rattle.curve.specs.Capacity.{held, held_at, least_share, ordinate, as_answer, root_call, power_call, held_call, ordinate_call};
 ghost use Rattle.curve.specs.Workers.{CurveIn};

@@ -5,7 +5,8 @@ ghost use Rattle.curve.specs.Capacity.{whole, part, power};
 use crate::roots::FindRoot;
 use crate::share::Share;
 
-// A root is taken only where a lower bit of e needs it. No loop over the bits: roots and parts stand in a row, as in the definition.
+// A root is taken only where a lower bit of e needs it. No loop over the bits: roots and parts stand in a row, so that each line is the
+// definition's.
 #[tactic(auto, using(crate::proofs::capacity::PowerLaws::bits))]
 pub fn power_of<R: FindRoot>(roots: &R, t: Share, e: u64) -> Share
     ensures { result ≡ power t e }

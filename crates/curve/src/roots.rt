@@ -42,7 +42,8 @@ pub fn printed_roots() -> Roots
     ROOTS
 }
 
-// By a few steps, where std's `isqrt` halves 32 times: the first guess is the mean of t and 65,536, and one whose square is too great goes down.
+// A few steps, where std's `isqrt` halves 32 times. The first guess is the mean of t and 65,536, and a guess whose square is too great goes
+// down.
 impl FindRoot for Newton {
     #[tactic(auto, using(crate::proofs::capacity::RootLaws::newton))]
     fn root_of(&self, t: Share) -> Share {

@@ -10,7 +10,7 @@ use std::fs;
 use std::io::{self, Read};
 
 fn main(rt: HostRuntime) -> io::Result<()> {
-    let mut bytes = [0u8; 4096]; // more than any legal file has
+    let mut bytes = [0u8; 4096]; // more than any legal file has; no heap is needed
     let size = fs::metadata(&rt, "basin.bin")?.len().min(4096) as usize;
     fs::open(&rt, "basin.bin")?.read_exact(&mut bytes[..size])?;
     let mut basin = match file::load(&bytes[..size]) {

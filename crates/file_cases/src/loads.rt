@@ -1,6 +1,5 @@
 // The load call on files, and its answers in a checksum.
 use basin::file;
-use basin_testing::calls;
 use basin_testing::checksum::add_basin;
 use testing::checksum::Checksum;
 use testing::refusals;
@@ -10,6 +9,6 @@ pub fn load(sum: &mut Checksum, bytes: &[u8]) -> [u64; 2] {
     let given = file::load(bytes);
     let told = refusals::told(&given);
     sum.add_row(&told);
-    add_basin(sum, &given.unwrap_or(calls::empty()));
+    add_basin(sum, &given.unwrap_or_default());
     told
 }

@@ -13,7 +13,7 @@ pub const LINE_BYTES: u64 = 12;
 pub fn lines_of(bytes: &[u8], n: u64) -> [Line; 32]
     ensures { result ≡ lines_of bytes.now n }
 {
-    let none = Line::default();
+    let none = Line::default(); // here, as of one made in the closure a proof knows nothing
     std::array::from_fn(|k| if (k as u64) < n {
         file_line(bytes, k)
     } else {

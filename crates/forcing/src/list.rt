@@ -35,7 +35,7 @@ pub struct Line {
 }
 
 // What the lines of one step came to: how many are estimated, and the weather by sub-basin.
-#[derive(Clone, Copy)]
+#[derive(Clone, Copy, Default)]
 pub struct Readings {
     pub estimated: u64,
     pub weather: [Weather; 32],

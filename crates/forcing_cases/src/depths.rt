@@ -140,18 +140,10 @@ impl Series {
     // The same, in a line.
     fn print(&mut self, rt: &impl Print, pattern: u32) -> io::Result<()> {
         let told = self.add(pattern);
-        println!(rt; "{} {pattern}{}", name_of(self.said), Row(&told))
+        println!(rt; "{} {pattern}{}", self.said, Row(&told))
     }
 
     fn end(&self, rt: &impl Print, part: &str) -> io::Result<()> {
-        println!(rt; "{} {part} {}", name_of(self.said), self.sum)
-    }
-}
-
-// No Display: the type is forcing's, which prints none.
-fn name_of(said: Gauge) -> &'static str {
-    match said {
-        Gauge::Rain => "rain",
-        Gauge::Pan => "pan",
+        println!(rt; "{} {part} {}", self.said, self.sum)
     }
 }

@@ -1,6 +1,5 @@
 // The reading of a step's lines: with a fault at every place, with two, with every count, and in a random series.
 use crate::readings;
-use common::weather::Weather;
 use forcing::list::{self, Line, Readings};
 use std::io;
 use testing::chance::Chance;
@@ -121,15 +120,10 @@ impl Told {
     }
 }
 
-const NONE: Readings = Readings {
-    estimated: 0,
-    weather: [Weather { rain: 0, pan: 0 }; 32],
-};
-
 fn read(lines: [Line; 32], count: u64, n: u64) -> Told {
     let given = list::read(lines, count, n);
     let [number, place] = refusals::told(&given);
-    let Readings { estimated, weather } = given.unwrap_or(NONE);
+    let Readings { estimated, weather } = given.unwrap_or_default();
     Told {
         told: [number, place, estimated],
         rain: weather.map(|here| here.rain),

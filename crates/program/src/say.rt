@@ -1,5 +1,5 @@
 // What is said on standard error, a line each, where not all could be read and printed. What can't be said there is not said.
-ghost use Rattle.std.specs.Prelude.{◌+◌, ◌*◌, ◌≤◌, ◌<◌, ◌^◌, length};
+ghost use Rattle.std.specs.Prelude.{◌<◌, ◌^◌, length};
 
 use basin::reach;
 use common::bytes::word;
@@ -13,8 +13,7 @@ const SUB_WORDS: u64 = record::WORDS as u64;
 
 const REACH_WORDS: u64 = reach::WORDS as u64;
 
-// A load of bytes that was refused with number and place.
-// A number, no Refusal: any is taken here, and a narrower type would ask more of a caller.
+// A load of bytes that was refused with number and place. Any number is taken: a `Refusal` would ask more of a caller.
 pub fn refused_load<W: io::Write>(to: &mut W, bytes: &[u8], number: u64, place: u64) {
     let (n, m) = (word(bytes, 0), word(bytes, 1));
     let _ = if number == Refusal::FewBytes.number() {
@@ -110,7 +109,7 @@ pub fn unwritten<W: io::Write>(to: &mut W, line: u64, error: io::Error) {
     );
 }
 
-// What failed, and why. Bytes, no text, which would ask more of a caller.
+// What failed, and why. Bytes, as text would ask more of a caller.
 pub fn failed<W: io::Write>(to: &mut W, what: &[u8], error: io::Error) {
     let why = Why(error);
     let _ = to.write_all(what);

@@ -15,7 +15,7 @@ pub struct Drained {
     pub g: u64,
 }
 
-// Of words inside their ranges, as in `soil`.
+// It asks that the words are inside their ranges, as those of `soil` do.
 impl Parameters {
     // The greatest point capacity of free water, MS.
     #[tactic(auto, unfolding(crate::specs::FreeWater::ms))]

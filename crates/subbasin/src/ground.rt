@@ -1,6 +1,6 @@
 // The soil and the free water of a sub-basin: their words, which are inside their ranges, a capacity curve for each, and the table of
 // roots by which the curves are read. All in µm.
-ghost use Rattle.std.specs.Prelude.{◌≡◌, true, ◌+◌, ◌≤◌};
+ghost use Rattle.std.specs.Prelude.{◌≡◌, true, ◌≤◌};
 ghost use Rattle.curve.specs.Capacity.{curve_in, rise};
 ghost use Rattle.subbasin.specs.Record.{record_in};
 ghost use Rattle.subbasin.specs.Soil.{wm, mm, ep};
@@ -12,8 +12,8 @@ use crate::record::{Parameters, SubBasin};
 use common::shares::ONE;
 use curve::capacity::{Curve, Roots};
 
-// What else its methods ask, that net rain is at most 1,000,000 and that layers, or tension water, are within their capacities, ties what
-// is handed in to it: types for these would be unwrapped in every line, and made anew for every slice.
+// Its methods ask besides that net rain is at most 1,000,000, and that layers or tension water are within their capacities. These tie what
+// is handed in to the ground: a type for them would be unwrapped in every line, and made anew for every slice.
 #[derive(Clone, Copy)]
 pub struct Ground<'a> {
     roots: &'a Roots,

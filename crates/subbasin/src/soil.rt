@@ -74,7 +74,7 @@ impl Layers {
     }
 }
 
-// Of words inside their ranges, which are asked for here, as a `Ground` is made by these.
+// Both ask that the words are inside their ranges: a `Ground`, of which that is known, is made by them.
 impl Parameters {
     // What all layers hold, WM.
     pub(crate) fn wm(&self) -> u64
@@ -91,15 +91,6 @@ impl Parameters {
         ensures { result ≡ mm self.now }
     {
         self.wm() * self.bn * ONE / (16 * (ONE - self.im))
-    }
-
-    // Runoff from the impervious part, RB.
-    #[tactic(auto, unfolding(crate::specs::Soil::rb))]
-    pub(crate) fn rb(&self, pe: u64) -> u64
-        requires { SoilIn self.now × (pe ≤ 1000000) }
-        ensures { result ≡ rb self.now pe }
-    {
-        self.im * pe / ONE
     }
 }
 
@@ -151,13 +142,22 @@ impl Ground<'_> {
         requires { LayersIn self.now.p.now w × (0 < pe) × (pe ≤ 1000000) }
         ensures { result ≡ runoff self.now.p.now w pe }
     {
-        let rb = self.p.rb(pe);
+        let rb = self.rb(pe);
         let gained = self.gain_of(w.tension(), pe);
         Runoff {
             rb,
             r: pe - rb - gained,
             layers: self.fill(w, gained),
         }
+    }
+
+    // Runoff from the impervious part, RB.
+    #[tactic(auto, unfolding(crate::specs::Soil::rb))]
+    fn rb(&self, pe: u64) -> u64
+        requires { pe ≤ 1000000 }
+        ensures { result ≡ rb self.now.p.now pe }
+    {
+        self.p.im * pe / ONE
     }
 
     // What soil with tension water w gains of pe.
@@ -167,7 +167,7 @@ impl Ground<'_> {
         ensures { let p = self.now.p.now in result ≡ gain p w pe (pe - rb p pe) }
     {
         let top = self.soil_top(w, pe);
-        (pe - self.p.rb(pe)).min(top - w)
+        (pe - self.rb(pe)).min(top - w)
     }
 
     // The gain fills the upper layer, then the lower, then the deep one.

@@ -72,7 +72,7 @@ fn lines_of(step: &[Line]) -> [Line; 32]
     requires { length step.now ≤ 32 }
     ensures { result ≡ step_lines (length step.now) step.now }
 {
-    let none = Line::default();
+    let none = Line::default(); // here, as of one made in the closure a proof knows nothing
     std::array::from_fn(|k| step.get(k).copied().unwrap_or(none))
 }
 

@@ -1,5 +1,5 @@
-// The week call: case A of document 01, lists of every length, refusals in every step and line, basins that 9 does not allow, and lists that mix weeks with
-// single steps; every list again by single steps. What it must print comes from the second model: `model expect week_cases`.
+// The week call: case A of document 01, lists of every length, refusals in every step and line, basins that 9 does not allow, and lists that
+// mix weeks with single steps; every list again by single steps. What it must print comes from the second model: `model expect week_cases`.
 #![tactic(auto)]
 
 mod brimming;

@@ -16,7 +16,7 @@ pub fn week(b: &mut Basin, lines: &[Line]) -> Week {
     }
 }
 
-// What a step with a wrong count gets, where that isn't 5, and then the length.
+// The refusal of a step with a wrong count, unless that is 5; and then the length's.
 fn judge(b: &Basin, lines: &[Line]) -> Result<(), Refused> {
     let mut same = *b;
     match same.step(places(lines), b.n % 33 + 1) {

@@ -10,7 +10,7 @@ use Rattle.common.specs.declared.weather.Weather.{Weather}
 use Rattle.common.specs.Weather.{most_rain, most_pan, WeatherIn}
 use Rattle.common.specs.declared.refusal.Refusal.{Refusal}
 use Rattle.common.proofs.Refusals.{number_some}
-use Rattle.common.proofs.Limits.{by_test, refuted, both, parts}
+use Rattle.common.proofs.Limits.{by_test, both, parts}
 use Rattle.subbasin.specs.declared.record.SubBasin.{SubBasin}
 use Rattle.subbasin.specs.declared.step.Flows.{Flows}
 use Rattle.subbasin.specs.declared.slices.Sliced.{Sliced}
@@ -48,18 +48,11 @@ module _ (s : SubBasin) (w : Weather) where
   unfolding sub_call
   step_in t = rw t
 
-  pub step_out : call_in s w ≡ false → sub_call s w ≡ returned s
-  unfolding sub_call
-  step_out t = rw t
-
   pub step_accepts : CallIn s w → sub_call s w ≡ stepped s w
   unfolding call_in
   step_accepts h =
       step_in
       (both (both (record_in_lem s.fixed.reach s h.in_record) (le-leb w.rain most_rain h.in_weather.rain_most)) (le-leb w.pan most_pan h.in_weather.pan_most))
-
-  pub step_refuses : (CallIn s w → ⊥) → sub_call s w ≡ returned s
-  step_refuses n = step_out (refuted (call_in s w) (λ t. n (call_limits t)))
 
   -- an accepted call was inside its limits
   pub step_accepted : (sub_call s w).number ≡ 0 → CallIn s w
