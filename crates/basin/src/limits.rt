@@ -1,6 +1,6 @@
 // 9's limits of a basin, part by part: document 01, "Who sent it".
 ghost use Rattle.std.specs.Prelude.{◌≡◌};
-ghost use Rattle.basin.specs.Limits.{counts_in, subs_used, reaches_used, others_in};
+ghost use Rattle.basin.specs.Limits.{counts_in, subs_used, subs_blank, reaches_used, reaches_blank, others_in};
 ghost use Rattle.basin.specs.Workers.{CountsIn, records_in};
 
 use crate::state::{Basin, MOST_REACHES, MOST_SUBS};
@@ -32,13 +32,26 @@ impl Basin {
     }
 
     // The reaches, and the records that are not in use.
+    #[tactic(auto, unfolding(crate::specs::Workers::records_in))]
     fn records_allowed(&self) -> bool
         requires { CountsIn self.now.n self.now.m }
         ensures { result ≡ records_in self.now }
     {
+        self.subs_blank() && self.reaches_used() && self.reaches_blank()
+    }
+
+    fn subs_blank(&self) -> bool
+        requires { CountsIn self.now.n self.now.m }
+        ensures { result ≡ subs_blank self.now.n self.now.subs }
+    {
         self.subs[self.n as usize..].iter().all(|s| s.is_blank())
-            && self.reaches_used()
-            && self.reaches[self.m as usize..].iter().all(|r| r.is_blank())
+    }
+
+    fn reaches_blank(&self) -> bool
+        requires { CountsIn self.now.n self.now.m }
+        ensures { result ≡ reaches_blank self.now.m self.now.reaches }
+    {
+        self.reaches[self.m as usize..].iter().all(|r| r.is_blank())
     }
 
     fn reaches_used(&self) -> bool

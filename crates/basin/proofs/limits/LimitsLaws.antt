@@ -71,14 +71,6 @@ module _ {A : Type 0} (p : ℕ → A → Bool) (d : A) (l : List A) (m : ℕ) (l
   all_numbered =
       rw (take_all m (enumerate_from 0 (take m l)) (omega (arith, length-enumerate_from 0 (take m l), length-take m l))) at (numbered m (omega arith))
 
--- ---- a test, and another where it holds
-
-pub and_then : {a x y v : Bool} → a ≡ x → a ≡ true → v ≡ y → v ≡ x && y
-and_then is yea e = e ∙ rw (sym is ∙ yea)
-
-pub and_stop : {a x v : Bool} (y : Bool) → a ≡ x → a ≡ false → v ≡ a → v ≡ x && y
-and_stop y is nay e = e ∙ nay ∙ rw (sym is ∙ nay)
-
 -- ---- the records
 
 -- past the end of an array of records code may read another record than the definitions do; no test of 9 tells them apart
