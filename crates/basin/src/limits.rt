@@ -40,6 +40,7 @@ impl Basin {
         self.subs_blank() && self.reaches_used() && self.reaches_blank()
     }
 
+    // One line each, this and `reaches_blank`: a trait with its law for the two would be longer.
     fn subs_blank(&self) -> bool
         requires { CountsIn self.now.n self.now.m }
         ensures { result ≡ subs_blank self.now.n self.now.subs }
