@@ -1,4 +1,4 @@
--- The refusals' numbers and words: document 01, "Who sent it".
+-- The refusals' numbers: document 01, "Who sent it"; and what they say, in words of ours.
 use Rattle.std.specs.Prelude.{ℕ, Bool, true, false, cond, List, ◌++◌, codes}
 use Rattle.std.specs.Fmt.{decimal}
 use Rattle.common.specs.declared.refusal.Refused.{Refused}
