@@ -165,7 +165,7 @@ mod tests {
     #[test]
     fn case_a_prints() {
         let files = case_a();
-        let expected = "1 ok 135000 0 22676 112324 0\n2 refused 6 1\n3 ok 0 10000 2430 99894 0\n";
+        let expected = "1 ok 135000 0 22678 112322 0\n2 refused 6 1\n3 ok 0 10000 2430 99892 0\n";
         assert_eq!(printed(&files.basin, &files.forcing), expected);
     }
 

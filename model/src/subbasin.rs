@@ -194,9 +194,9 @@ mod tests {
         assert_eq!((given.number, given.place), (0, 0));
         assert_eq!((after.wu, after.wl, after.wd), (20_000, 60_000, 25_030));
         let expected =
-            Flows { r: 29_970, rs: 20_246, ri: 2_431, rg: 2_431, q: 22_676, ..Flows::default() };
+            Flows { r: 29_970, rs: 20_246, ri: 2_431, rg: 2_431, q: 22_678, ..Flows::default() };
         assert_eq!(given.flows, expected);
-        assert_eq!((after.g, after.vi, after.vg), (9_724 - 4_862, 1_216, 1_216));
+        assert_eq!((after.g, after.vi, after.vg), (9_724 - 4_862, 1_215, 1_215));
     }
 
     #[test]

@@ -64,22 +64,22 @@ basin_of s t held =
     }
 
 abbrev sub_1_a : SubBasin
-sub_1_a = with_contents sub_1 (record { wu = 0; wl = 0; wd = 28201; g = 1438; vi = 1004; vg = 3531 }) (7889 ∷ replicate 14 0) 0
+sub_1_a = with_contents sub_1 (record { wu = 0; wl = 0; wd = 28201; g = 1438; vi = 1004; vg = 3530 }) (7896 ∷ replicate 14 0) 0
 
 abbrev sub_2_a : SubBasin
 sub_2_a = with_contents sub_2 (record { wu = 15000; wl = 70000; wd = 45769; g = 6765; vi = 2046; vg = 5465 }) (91068 ∷ replicate 14 0) 0
 
 abbrev sub_1_c : SubBasin
-sub_1_c = with_contents sub_1 (record { wu = 12000; wl = 80000; wd = 36070; g = 3766; vi = 1453; vg = 4302 }) (233681 ∷ replicate 14 0) 3551
+sub_1_c = with_contents sub_1 (record { wu = 12000; wl = 80000; wd = 36070; g = 3766; vi = 1453; vg = 4301 }) (233681 ∷ replicate 14 0) 3553
 
 abbrev sub_2_c : SubBasin
-sub_2_c = with_contents sub_2 (record { wu = 0; wl = 50501; wd = 45769; g = 3384; vi = 2295; vg = 7598 }) (2997 ∷ 91068 ∷ replicate 13 0) 0
+sub_2_c = with_contents sub_2 (record { wu = 0; wl = 50501; wd = 45769; g = 3384; vi = 2295; vg = 7597 }) (3000 ∷ 91068 ∷ replicate 13 0) 0
 
 abbrev sub_1_d : SubBasin
-sub_1_d = with_contents sub_1 (record { wu = 10000; wl = 80000; wd = 36070; g = 2166; vi = 1317; vg = 4565 }) (10311 ∷ replicate 14 0) 106754
+sub_1_d = with_contents sub_1 (record { wu = 10000; wl = 80000; wd = 36070; g = 2166; vi = 1317; vg = 4563 }) (10318 ∷ replicate 14 0) 106755
 
 abbrev sub_2_d : SubBasin
-sub_2_d = with_contents sub_2 (record { wu = 15000; wl = 51201; wd = 45769; g = 3918; vi = 2602; vg = 10029 }) (17487 ∷ 2997 ∷ replicate 13 0) 27321
+sub_2_d = with_contents sub_2 (record { wu = 15000; wl = 51201; wd = 45769; g = 3918; vi = 2602; vg = 10028 }) (17487 ∷ 3000 ∷ replicate 13 0) 27321
 
 file_basin_b : file_basin file_b ≡ basin_of sub_1 sub_2 0
 unfolding file_basin filled file_sub file_reach word_at
@@ -148,7 +148,7 @@ step_2_a : stepped sub_2 (fallen 120500 3000) ≡ after_step sub_2_a 2699 0 0 58
 unfolding fast_stepped
 step_2_a = stepped_fast _ _
 
-step_1_c : stepped sub_1_a (fallen 140000 4000) ≡ after_step sub_1_c 3200 0 0 13680 23251 18141 1637 1145 4338
+step_1_c : stepped sub_1_a (fallen 140000 4000) ≡ after_step sub_1_c 3200 0 0 13680 23251 18141 1637 1145 4343
 unfolding fast_stepped
 step_1_c = stepped_fast _ _
 
@@ -156,7 +156,7 @@ step_2_c : stepped sub_2_a (fallen 1500 40000) ≡ after_step sub_2_c 16500 1949
 unfolding fast_stepped
 step_2_c = stepped_fast _ _
 
-step_1_d : stepped sub_1_c (fallen 0 2500) ≡ after_step sub_1_d 2000 0 0 0 0 0 941 659 130478
+step_1_d : stepped sub_1_c (fallen 0 2500) ≡ after_step sub_1_d 2000 0 0 0 0 0 941 659 130479
 unfolding fast_stepped
 step_1_d = stepped_fast _ _
 
@@ -173,10 +173,10 @@ abbrev outcome_2 : Outcome
 outcome_2 = record { number = 6; place = 2; basin = basin_of sub_1_a sub_2_a 0; report = reported 0 0 0 0 0 }
 
 abbrev outcome_3 : Outcome
-outcome_3 = record { number = 0; place = 0; basin = basin_of sub_1_c sub_2_c 3384; report = reported 984500 130397 954 1626459 1 }
+outcome_3 = record { number = 0; place = 0; basin = basin_of sub_1_c sub_2_c 3388; report = reported 984500 130397 955 1626458 1 }
 
 abbrev outcome_4 : Outcome
-outcome_4 = record { number = 0; place = 0; basin = basin_of sub_1_d sub_2_d 102721; report = reported 75750 15347 94888 1591974 1 }
+outcome_4 = record { number = 0; place = 0; basin = basin_of sub_1_d sub_2_d 102722; report = reported 75750 15347 94892 1591969 1 }
 
 taken_1 : taken (basin_of sub_1 sub_2 0) forcing_b1 ≡ outcome_1
 unfolding taken basin_after sent_by rain_volume loss_volume outlet_volume content_of run filled sum_of send flows reaches_after water sum outflow content
@@ -186,7 +186,7 @@ taken_3 : taken (basin_of sub_1_a sub_2_a 0) forcing_b3 ≡ outcome_3
 unfolding taken basin_after sent_by rain_volume loss_volume outlet_volume content_of run filled sum_of send flows reaches_after water sum outflow content
 taken_3 = rw (step_1_c, step_2_c)
 
-taken_4 : taken (basin_of sub_1_c sub_2_c 3384) forcing_b4 ≡ outcome_4
+taken_4 : taken (basin_of sub_1_c sub_2_c 3388) forcing_b4 ≡ outcome_4
 unfolding taken basin_after sent_by rain_volume loss_volume outlet_volume content_of run filled sum_of send flows reaches_after water sum outflow content
 taken_4 = rw (step_1_d, step_2_d)
 
@@ -235,7 +235,7 @@ abbrev ran_2 : Ran
 ran_2 = record { number = 5; place = 0; basin = outcome_1.basin; count = 0; report = reported 0 0 0 0 0 }
 
 abbrev ran_3 : Ran
-ran_3 = record { number = 0; place = 0; basin = outcome_4.basin; count = 2; report = reported 1060250 145744 95842 1591974 2 }
+ran_3 = record { number = 0; place = 0; basin = outcome_4.basin; count = 2; report = reported 1060250 145744 95847 1591969 2 }
 
 ruled_1 : rule_week (basin_of sub_1 sub_2 0) week_b1 ≡ ran_1
 unfolding fits together after rule_results
@@ -281,7 +281,7 @@ rained_b : rains file_b calls_b ≡ 1428750
 unfolding rains rain_of_lines is_inside line_inside from_zero_to every sum_of weather_of of_bits depth_of nearest numerator denominator file_sub filled word_at
 rained_b = refl
 
--- 1,591,974 + 339,276 = 502,500 + 1,428,750
+-- 1,591,969 + 339,281 = 502,500 + 1,428,750
 figures_said : (b : Basin) → StepsAccounted file_b b calls_b → Says file_b calls_b figures_b b
 unfolding losses
 figures_said b h =

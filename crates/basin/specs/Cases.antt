@@ -66,7 +66,7 @@ entries_a = week week_a ∷ step call_3 ∷ []
 abbrev pub depth_cases : List Row
 depth_cases = row (depth_of (of_bits binary32 0x3d80_0000)) 63 ∷ []
 
--- "case A's first step", by slices: `1 ok 135000 0 22676 112324 0`
+-- "case A's first step", by slices: `1 ok 135000 0 22678 112322 0`
 abbrev pub first_outcome : Outcome
 first_outcome = step_call (load_call file_a).basin call_1.lines 1
 
@@ -74,8 +74,8 @@ abbrev pub outcome_cases : List Row
 outcome_cases =
     row first_outcome.report.rain 135000
     ∷ row first_outcome.report.evapotranspiration 0
-    ∷ row first_outcome.report.outlet 22676
-    ∷ row first_outcome.report.content 112324
+    ∷ row first_outcome.report.outlet 22678
+    ∷ row first_outcome.report.content 112322
     ∷ row first_outcome.report.estimated 0
     ∷ []
 
@@ -178,12 +178,12 @@ figures_a =
     record {
       started = 0;
       rained = 135000;
-      lost = 35106;
-      left = 99894;
+      lost = 35108;
+      left = 99892;
       numbers = 0 ∷ 6 ∷ 0 ∷ [];
       places = 0 ∷ 1 ∷ 0 ∷ [];
-      reports = reported 135000 0 22676 112324 0 ∷ reported 0 0 0 0 0 ∷ reported 0 10000 2430 99894 0 ∷ [];
-      told = reported 135000 0 22676 112324 0 ∷ reported 0 10000 2430 99894 0 ∷ [];
+      reports = reported 135000 0 22678 112322 0 ∷ reported 0 0 0 0 0 ∷ reported 0 10000 2430 99892 0 ∷ [];
+      told = reported 135000 0 22678 112322 0 ∷ reported 0 10000 2430 99892 0 ∷ [];
       endings = ends 6 1 1 ∷ [];
       bounds = record { area = 1; um = 20000; lm = 60000; dm = 40000; sm = 20000 } ∷ [];
     }
@@ -252,17 +252,17 @@ figures_b =
     record {
       started = 502500;
       rained = 1428750;
-      lost = 339276;
-      left = 1591974;
+      lost = 339281;
+      left = 1591969;
       numbers = 0 ∷ 6 ∷ 0 ∷ 0 ∷ [];
       places = 0 ∷ 2 ∷ 0 ∷ 0 ∷ [];
       reports =
           reported 368500 97690 0 773310 0
           ∷ reported 0 0 0 0 0
-          ∷ reported 984500 130397 954 1626459 1
-          ∷ reported 75750 15347 94888 1591974 1
+          ∷ reported 984500 130397 955 1626458 1
+          ∷ reported 75750 15347 94892 1591969 1
           ∷ [];
-      told = reported 368500 97690 0 773310 0 ∷ reported 0 0 0 0 0 ∷ reported 1060250 145744 95842 1591974 2 ∷ [];
+      told = reported 368500 97690 0 773310 0 ∷ reported 0 0 0 0 0 ∷ reported 1060250 145744 95847 1591969 2 ∷ [];
       endings = ends 6 2 1 ∷ ends 5 0 0 ∷ ends 0 0 2 ∷ [];
       bounds =
           record { area = 7; um = 12000; lm = 80000; dm = 45000; sm = 18000 }

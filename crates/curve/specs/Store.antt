@@ -1,4 +1,4 @@
--- Document 01, "The store law", and the store call in "Who sent it".
+-- Document 01, "The store law", with the rounding of document 02, No. 6, and the store call in "Who sent it".
 use Rattle.std.specs.Prelude.{Bool, cond, ◌&&◌, Result, Ok, Err, ℕ, ◌+◌, ◌-◌, ◌*◌, ◌/◌, ◌^◌, leb}
 use Rattle.common.specs.Shares.{one}
 use Rattle.common.specs.Refusals.{number_of}
@@ -6,9 +6,9 @@ use Rattle.common.specs.declared.refusal.Refusal.{Refusal}
 use Rattle.curve.specs.declared.store.Store.{Store}
 use Rattle.curve.specs.declared.store.Taken.{Taken}
 
--- O = (a × I + g × V) / 65,536
+-- "O becomes (a × I + g × V + 32,768) / 65,536, rounded down, so that outflow goes to nearest with halves up"
 unfoldable pub outflow : ℕ → ℕ → ℕ → ℕ → ℕ
-outflow a g v i = (a * i + g * v) / one
+outflow a g v i = (a * i + g * v + 32768) / one
 
 -- "V becomes V + I − O"
 unfoldable pub content : ℕ → ℕ → ℕ → ℕ → ℕ

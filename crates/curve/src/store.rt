@@ -1,4 +1,5 @@
-// The store law: document 01, "The store law". One store serves interflow, ground water, channel and reach.
+// The store law: document 01, "The store law", rounded as document 02, No. 6, has it. One store serves interflow, ground water, channel
+// and reach.
 ghost use Rattle.std.specs.Prelude.{◌≡◌, ◌↔◌, IsTrue, ◌+◌, ◌≤◌};
 ghost use Rattle.curve.specs.Store.{outflow, as_released, store_call};
 ghost use Rattle.curve.specs.Workers.{StoreIn};
@@ -25,6 +26,9 @@ pub struct Taken {
 const MOST_INFLOW: u64 = 1 << 62;
 
 pub const MOST_CONTENT: u64 = 1 << 56;
+
+// Added before the division by ONE, so that it goes to nearest with halves up.
+const HALF: u64 = ONE / 2;
 
 impl Store {
     // Takes the inflow, and hands back the store and its outflow: by `mut self`, as document 01 has it.
@@ -53,7 +57,7 @@ impl Store {
         self.a <= ONE && self.g <= ONE && inflow <= MOST_INFLOW && self.content <= MOST_CONTENT
     }
 
-    // (a * i + g * v) / 65,536. The sum may pass 64 bits, so i and v are parted at 16 bits and the low products are divided together.
+    // (a * i + g * v + 32,768) / 65,536. The sum may pass 64 bits, so i and v are parted at 16 bits and the low products are divided together.
     #[tactic(auto, using(crate::proofs::store::StoreLaws::outflow_parted, crate::proofs::store::StoreLaws::store_within))]
     fn outflow(self, i: u64) -> u64
         requires { StoreIn self i }
@@ -62,6 +66,6 @@ impl Store {
         let v = self.content;
         let low_i = self.a * (i % ONE);
         let low_v = self.g * (v % ONE);
-        self.a * (i / ONE) + self.g * (v / ONE) + (low_i + low_v) / ONE
+        self.a * (i / ONE) + self.g * (v / ONE) + (low_i + low_v + HALF) / ONE
     }
 }

@@ -1,5 +1,6 @@
-// The calls of `curve`: on document 01's examples, on every share, at both ends of every limit and one beyond, on every w of some curves, in
-// long random series, and with tables of roots that mislead. What it must print comes from the second model: `model expect curve_cases`.
+// The calls of `curve`: on document 01's examples, on every share, at both ends of every limit and one beyond, on every w of some curves, on
+// stores of which a part is a half above a whole number and on such as are left alone, in long random series, and with tables of roots that
+// mislead. What it must print comes from the second model: `model expect curve_cases`.
 #![tactic(auto)]
 
 mod calls;
@@ -9,6 +10,7 @@ mod lent;
 mod limits;
 mod ordinates;
 mod random;
+mod stores;
 
 use std::io;
 
@@ -19,6 +21,7 @@ fn main(rt: HostRuntime) -> io::Result<()> {
     limits::print(&rt)?;
     limits::far(&rt)?;
     ordinates::print(&rt)?;
+    stores::print(&rt)?;
     random::print(&rt)?;
     lent::series(&rt)
 }

@@ -2,14 +2,18 @@
 use mathlib.Core.Path.{◌≡◌, refl, ap}
 use Prim.Native.Nat.{ℕ, ◌+◌}
 use lib.ListN.{replicate}
+use Rattle.common.specs.Amounts.{sum}
 use Rattle.common.specs.Cases.{Agree}
 use Rattle.curve.specs.Store.{outflow, content}
-use Rattle.subbasin.specs.Soil.{ep, evaporated}
+use Rattle.subbasin.specs.declared.record.Contents.{Contents}
+use Rattle.subbasin.specs.Content.{water}
+use Rattle.subbasin.specs.Soil.{ep, deeper, evaporated}
 use Rattle.subbasin.specs.FreeWater.{drained}
 use Rattle.subbasin.specs.Lag.{leaving, waiting_after, entered}
-use Rattle.subbasin.specs.Step.{Stepped, stepped, stepped_whole}
+use Rattle.subbasin.specs.Slices.{unsliced}
+use Rattle.subbasin.specs.Step.{Stepped, layers_of, stepped, stepped_whole}
 use Rattle.subbasin.specs.Yields.{yield}
-use Rattle.subbasin.specs.Cases.{case_a, weather_a, whole_rain, sliced_rain, dipping, step_cases}
+use Rattle.subbasin.specs.Cases.{case_a, weather_a, weather_3, whole_rain, sliced_rain, dipping, step_cases}
 use Rattle.subbasin.proofs.slices.FastLaws.{fast_sliced, sliced_fast, fast_after_slice, unsliced_fast}
 use Rattle.subbasin.proofs.step.FastLaws.{fast_stepped, stepped_fast}
 
@@ -46,11 +50,40 @@ answered r rs rg q wd g vg =
       q = q;
     }
 
-whole_a : stepped_whole case_a weather_a ≡ answered 30000 25556 1111 26666 25000 2222 556
+whole_a : stepped_whole case_a weather_a ≡ answered 30000 25556 1111 26668 25000 2222 555
 unfolding stepped_whole evaporated ep drained outflow content leaving waiting_after entered
 whole_a = rw whole_rain_lem
 
-pub step_a : stepped case_a weather_a ≡ answered 29970 20246 2431 22676 25030 4862 1216
+-- the third step of the same, without rain
+abbrev whole_left : Stepped
+whole_left = answered 30000 25556 1111 26668 25000 2222 555
+
+abbrev whole_after : Contents
+whole_after = record { wu = 10000; wl = 60000; wd = 25000; g = 1112; vi = 555; vg = 555 }
+
+dry_rain_lem : unsliced case_a.fixed (layers_of whole_after) 2222 0 ≡ record { rb = 0; r = 0; rs = 0; layers = layers_of whole_after; kept = 2222 }
+unfolding fast_after_slice
+dry_rain_lem = unsliced_fast _ _ _ _
+
+whole_3 : stepped_whole whole_left.after weather_3
+    ≡ record {
+      number = 0;
+      place = 0;
+      after = record { fixed = case_a.fixed; contents = whole_after; line = whole_left.after.line; channel = 0 };
+      eu = 10000;
+      el = 0;
+      ed = 0;
+      rb = 0;
+      r = 0;
+      rs = 0;
+      ri = 555;
+      rg = 555;
+      q = 1110;
+    }
+unfolding stepped_whole evaporated deeper ep drained outflow content leaving waiting_after entered
+whole_3 = rw dry_rain_lem
+
+pub step_a : stepped case_a weather_a ≡ answered 29970 20246 2431 22678 25030 4862 1215
 unfolding fast_stepped
 step_a = stepped_fast _ _
 
@@ -71,7 +104,9 @@ unfolding yield fast_stepped
 above_pan = ap RbAndR (stepped_fast _ _)
 
 pub step_cases_lem : Agree step_cases
-unfolding outflow
+unfolding outflow water sum
 step_cases_lem =
-    rw (whole_a, whole_rain_lem, step_a, sliced_rain_lem)
-    (refl, (refl, (refl, (refl, (refl, (refl, (refl, (refl, (refl, (refl, (refl, (refl, (refl, (refl, (seven, (eight, (above_pan, tt)))))))))))))))))
+    rw (whole_a, whole_3, whole_rain_lem, step_a, sliced_rain_lem) (
+      refl,
+      (refl, (refl, (refl, (refl, (refl, (refl, (refl, (refl, (refl, (refl, (refl, (refl, (refl, (refl, (refl, (refl, (seven, (eight, (above_pan, tt))))))))))))))))))),
+    )

@@ -1,11 +1,13 @@
 -- Document 01, "What the program prints" and "Proved cases": case A's sub-basin, and its first step as rows over the definitions,
--- with net rain in one as document 01 has it and by slices as document 02, No. 3, has it; and what rains yield, document 02, No. 5.
+-- with net rain in one as document 01 has it and by slices as document 02, No. 3, has it, both with the store law of its No. 6; and what
+-- rains yield, No. 5.
 use Rattle.std.specs.Prelude.{ℕ, List, [], ◌∷◌, ◌++◌, replicate}
 use Rattle.common.specs.declared.weather.Weather.{Weather}
 use Rattle.common.specs.Cases.{Row, row}
 use Rattle.subbasin.specs.declared.record.SubBasin.{SubBasin}
 use Rattle.subbasin.specs.Record.{of_words}
 use Rattle.subbasin.specs.declared.slices.Sliced.{Sliced}
+use Rattle.subbasin.specs.Content.{water}
 use Rattle.subbasin.specs.Soil.{tension}
 use Rattle.subbasin.specs.Slices.{sliced, unsliced}
 use Rattle.subbasin.specs.Step.{Stepped, layers_of, let_go, stepped, stepped_whole}
@@ -19,9 +21,12 @@ words_a =
 abbrev pub case_a : SubBasin
 case_a = of_words words_a
 
--- "rain 135 pan 0"
+-- "rain 135 pan 0", and "rain 0 pan 10"
 abbrev pub weather_a : Weather
 weather_a = record { rain = 135000; pan = 0 }
+
+abbrev pub weather_3 : Weather
+weather_3 = record { rain = 0; pan = 10000 }
 
 -- its net rain, in one and by slices
 abbrev pub whole_rain : Sliced
@@ -42,13 +47,22 @@ step_rows sl st gain r kept rs ri ti q =
     ∷ row st.q q
     ∷ []
 
--- In one, with document 01's figures: "In step 1: gain 105000, R 30000, keep 4444, RS 25556, RI 1111, TI 555"
+-- In one, with document 01's figures, "In step 1: gain 105000, R 30000, keep 4444, RS 25556, RI 1111", and document 02's, No. 6: "Under
+-- the unsliced rule of the first delivery, case A would print 26668 and 108332 in line 1 and 1110 and 97222 in line 3"
+abbrev pub whole_first : Stepped
+whole_first = stepped_whole case_a weather_a
+
+abbrev pub whole_third : Stepped
+whole_third = stepped_whole whole_first.after weather_3
+
 abbrev pub whole_cases : List Row
-whole_cases = step_rows whole_rain (stepped_whole case_a weather_a) 105000 30000 4444 25556 1111 555 26666
+whole_cases =
+    step_rows whole_rain whole_first 105000 30000 4444 25556 1111 556 26668
+    ++ (row (water whole_first.after) 108332 ∷ row whole_third.q 1110 ∷ row (water whole_third.after) 97222 ∷ [])
 
 -- By slices, with the second model's
 abbrev pub sliced_cases : List Row
-sliced_cases = step_rows sliced_rain (stepped case_a weather_a) 105030 29970 9724 20246 2431 1215 22676
+sliced_cases = step_rows sliced_rain (stepped case_a weather_a) 105030 29970 9724 20246 2431 1216 22678
 
 -- Case A's sub-basin, empty, with UM 0, LM and DM 200,000, BN 20 and this IM: by the rounding of Power more rain may yield less, and with
 -- IM 32,768 and a pan of 40.5 mm 41 mm of rain yield RB alone; the second model's figures

@@ -2,6 +2,7 @@
 
 use super::draw::{Checksum, Draw};
 use crate::curve;
+use crate::file::GREATEST_START;
 use crate::store::Store;
 use std::io::{self, Write};
 
@@ -95,6 +96,8 @@ pub fn print(out: &mut impl Write) -> io::Result<()> {
             curve_line(c, m, e, out)?;
         }
     }
+    halves(out)?;
+    left_alone(out)?;
     for drawn in [drawn_root, drawn_power, drawn_held, drawn_ordinate, drawn_store] {
         series(drawn, out)?;
     }
@@ -193,6 +196,59 @@ fn far() -> Vec<Call> {
 fn with(mut arguments: [u64; 4], i: usize) -> [u64; 4] {
     arguments[i] = u64::MAX;
     arguments
+}
+
+/// Shares, each with the least amount of which its part is a half above a whole number.
+const HALVES: [(u64, u64); 6] =
+    [(1, 32_768), (16_384, 2), (32_768, 1), (49_152, 2), (65_534, 16_384), (65_535, 32_768)];
+
+/// Contents and inflows around the least and the greatest half, up to their limits: of each two shares a
+/// checksum, and where they are one share those beside the least half in full.
+fn halves(out: &mut impl Write) -> io::Result<()> {
+    for (a, half_of_a) in HALVES {
+        for (g, half_of_g) in HALVES {
+            let mut h = Checksum::default();
+            for (i, content) in around(half_of_g, CONTENTS[2]).into_iter().enumerate() {
+                for (j, inflow) in around(half_of_a, INFLOWS[2]).into_iter().enumerate() {
+                    let call = Call::Store([a, g, content, inflow]);
+                    if a == g && i < 4 && j < 4 {
+                        call.print(out)?;
+                    }
+                    h.fold(&call.answer());
+                }
+            }
+            writeln!(out, "halves {a} {g} {}", h.0)?;
+        }
+    }
+    Ok(())
+}
+
+/// As 65,536 divides the limit, what is as far below it as the least half is above 0 is a half too.
+fn around(half: u64, most: u64) -> [u64; 8] {
+    let last = most - half;
+    [0, half - 1, half, half + 1, last - 1, last, last + 1, most]
+}
+
+/// Ground stores that get nothing until they let out nothing more: in how many steps, and what is left.
+/// CG is 0, 0.5, 0.9, 0.95, 0.98, 0.99 and the greatest.
+fn left_alone(out: &mut impl Write) -> io::Result<()> {
+    for cg in [0, 32_768, 58_982, 62_259, 64_225, 64_880, 65_535] {
+        for start in [100, GREATEST_START] {
+            let g = 65_536 - cg;
+            let mut store = Store { a: g, g, content: start };
+            let mut steps = 0;
+            loop {
+                let given = store.take(0);
+                store = given.store;
+                if given.outflow == 0 {
+                    break;
+                }
+                steps += 1;
+            }
+            writeln!(out, "left alone {cg} {start} {steps} {}", store.content)?;
+        }
+    }
+    Ok(())
 }
 
 /// The greatest c with the least m, the least c with the greatest m, and c and m beside a share's whole.

@@ -31,7 +31,7 @@ fn case_a_in_one_slice() {
     let keep = after.g + f.ri + f.rg;
     let ti = f.ri - after.vi;
     assert_eq!((gain, f.r, keep, f.rs), (105_000, 30_000, 4_444, 25_556));
-    assert_eq!((f.ri, ti, f.q), (1_111, 555, 26_666));
+    assert_eq!((f.ri, ti, f.q), (1_111, 556, 26_668));
 }
 
 #[test]
@@ -52,7 +52,7 @@ fn case_a_prints_in_one_slice() {
             }
         });
     }
-    let expected = ["1 ok 135000 0 26666 108334 0", "2 refused 6 1", "3 ok 0 10000 1110 97224 0"];
+    let expected = ["1 ok 135000 0 26668 108332 0", "2 refused 6 1", "3 ok 0 10000 1110 97222 0"];
     assert_eq!(lines, expected);
 }
 

@@ -17,6 +17,10 @@ use Rattle.curve.specs.declared.store.Store.{Store}
 use Rattle.curve.specs.declared.store.Taken.{Taken}
 use Rattle.curve.specs.Store.{outflow, content, most_inflow, most_content, store_in, Released, released, kept, released_of, as_released, store_call}
 
+-- the number added before the division, so that it goes to nearest with halves up
+abbrev half : ℕ
+half = 32768
+
 module _ {a g : ℕ} (a-le : a ≤ one) (g-le : g ≤ one) where
   -- a store lets out no more than it has
   pub store_within : (v i : ℕ) → outflow a g v i ≤ v + i
@@ -29,13 +33,9 @@ module _ {a g : ℕ} (a-le : a ≤ one) (g-le : g ≤ one) where
   store_conserves v i = omega (arith, store_within v i)
 
 -- with i and v parted at 16 bits: the high parts are whole multiples of 65,536, so dividing the sum of the low products divides the whole
-pub outflow_parted : (a g v i : ℕ) → a * (i / one) + g * (v / one) + (a * (i % one) + g * (v % one)) / one ≡ outflow a g v i
+pub outflow_parted : (a g v i : ℕ) → a * (i / one) + g * (v / one) + (a * (i % one) + g * (v % one) + half) / one ≡ outflow a g v i
 unfolding outflow
 outflow_parted a g v i = omega (arith, ap (λ (x : ℕ). a * x) (div-add-mod i one), ap (λ (x : ℕ). g * x) (div-add-mod v one))
-
--- the number added before the division: nothing, while the law rounds down
-abbrev half : ℕ
-half = 0
 
 -- the two sides of the division
 record Rounded (a g v i o : ℕ) : Type 0 where
