@@ -58,7 +58,7 @@ impl Store {
     }
 
     // (a * i + g * v + 32,768) / 65,536. The sum may pass 64 bits, so i and v are parted at 16 bits and the low products are divided together.
-    #[tactic(auto, using(crate::proofs::store::StoreLaws::outflow_parted, crate::proofs::store::StoreLaws::store_within))]
+    #[tactic(auto, using(crate::proofs::store::PartsLaws::outflow_parted, crate::proofs::store::StoreLaws::store_within), unfolding(crate::specs::Store::outflow))]
     fn outflow(self, i: u64) -> u64
         requires { StoreIn self i }
         ensures { (result ≡ outflow self.a self.g self.content i) × (result ≤ self.content + i) }

@@ -2,8 +2,8 @@
 -- outside. Assumes nothing.
 use mathlib.Core.Path.{◌≡◌, ap, ◌∙◌}
 use mathlib.Core.Bool.{true, ◌&&◌}
-use Prim.Native.Nat.{ℕ, ◌+◌, ◌-◌, ◌*◌, ◌/◌, ◌%◌, ◌≤◌, ◌<◌}
-use native.Mathlib.Nat.{le_refl, div-add-mod, mul-le-mul_left, mul-le-mul_right}
+use Prim.Native.Nat.{ℕ, ◌+◌, ◌-◌, ◌*◌, ◌≤◌, ◌<◌}
+use native.Mathlib.Nat.{le_refl, mul-le-mul_left, mul-le-mul_right}
 use native.Mathlib.Omega.{arith}
 use lib.Dec.{leb}
 use borrow.Author.Tests.{le-leb, leb-true}
@@ -17,10 +17,6 @@ use Rattle.curve.specs.declared.store.Store.{Store}
 use Rattle.curve.specs.declared.store.Taken.{Taken}
 use Rattle.curve.specs.Store.{outflow, content, most_inflow, most_content, store_in, Released, released, kept, released_of, as_released, store_call}
 
--- the number added before the division, so that it goes to nearest with halves up
-abbrev half : ℕ
-half = 32768
-
 module _ {a g : ℕ} (a-le : a ≤ one) (g-le : g ≤ one) where
   -- a store lets out no more than it has
   pub store_within : (v i : ℕ) → outflow a g v i ≤ v + i
@@ -32,10 +28,9 @@ module _ {a g : ℕ} (a-le : a ≤ one) (g-le : g ≤ one) where
   unfolding content
   store_conserves v i = omega (arith, store_within v i)
 
--- with i and v parted at 16 bits: the high parts are whole multiples of 65,536, so dividing the sum of the low products divides the whole
-pub outflow_parted : (a g v i : ℕ) → a * (i / one) + g * (v / one) + (a * (i % one) + g * (v % one) + half) / one ≡ outflow a g v i
-unfolding outflow
-outflow_parted a g v i = omega (arith, ap (λ (x : ℕ). a * x) (div-add-mod i one), ap (λ (x : ℕ). g * x) (div-add-mod v one))
+-- the number added before the division, so that it goes to nearest with halves up
+abbrev half : ℕ
+half = 32768
 
 -- the two sides of the division
 record Rounded (a g v i o : ℕ) : Type 0 where
