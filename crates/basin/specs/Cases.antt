@@ -1,5 +1,5 @@
 -- Document 01, "What the program prints" and "Proved cases": case A's file and calls, all proved cases as one table, and what demand 3
--- says of case A and of a second case, in figures. Those of a step are the second model's, by slices as document 02, No. 3, has it.
+-- says of case A and of a second case, in figures. Those of a step are the second model's, by document 02, No. 3 and No. 6.
 use Rattle.std.specs.Prelude.{◌≡◌, List, [], ◌∷◌, ◌++◌, map, ℕ, suc, ◌+◌, ◌≤◌, replicate}
 use Rattle.std.specs.Float.{binary32}
 use Rattle.std.specs.Float.Ieee.{of_bits}

@@ -1,5 +1,5 @@
 // The calls of `curve`: on document 01's examples, on every share, at both ends of every limit and one beyond, on every w of some curves, on
-// stores of which a part is a half above a whole number and on such as are left alone, in long random series, and with tables of roots that
+// stores whose outflow is a half above a whole number and on such as get nothing, in long random series, and with tables of roots that
 // mislead. What it must print comes from the second model: `model expect curve_cases`.
 #![tactic(auto)]
 

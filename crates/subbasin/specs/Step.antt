@@ -108,7 +108,7 @@ with_evaporated s ev = with_slices s ev (sliced s.fixed ev.layers s.contents.g e
 unfoldable pub stepped : SubBasin → Weather → Stepped
 stepped s w = with_evaporated s (evaporated_of s w)
 
--- the step of document 01, PE in one
+-- the same with PE in one, as document 01 has it
 unfoldable pub stepped_whole : SubBasin → Weather → Stepped
 stepped_whole s w =
     let ev = evaporated_of s w in

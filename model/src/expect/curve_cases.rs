@@ -198,12 +198,12 @@ fn with(mut arguments: [u64; 4], i: usize) -> [u64; 4] {
     arguments
 }
 
-/// Shares, each with the least amount of which its part is a half above a whole number.
+/// Shares, each with an amount of which it is a half above a whole number.
 const HALVES: [(u64, u64); 6] =
-    [(1, 32_768), (16_384, 2), (32_768, 1), (49_152, 2), (65_534, 16_384), (65_535, 32_768)];
+    [(1, 32_768), (16_384, 2), (32_768, 3), (49_152, 2), (65_534, 16_384), (65_535, 32_768)];
 
-/// Contents and inflows around the least and the greatest half, up to their limits: of each two shares a
-/// checksum, and where they are one share those beside the least half in full.
+/// Contents and inflows beside such an amount, and as far below their limits: of each two shares a checksum,
+/// and where they are one share the small ones in full.
 fn halves(out: &mut impl Write) -> io::Result<()> {
     for (a, half_of_a) in HALVES {
         for (g, half_of_g) in HALVES {
@@ -223,7 +223,7 @@ fn halves(out: &mut impl Write) -> io::Result<()> {
     Ok(())
 }
 
-/// As 65,536 divides the limit, what is as far below it as the least half is above 0 is a half too.
+/// As 65,536 divides the limit, what is as far below it as a half is above 0 is a half too.
 fn around(half: u64, most: u64) -> [u64; 8] {
     let last = most - half;
     [0, half - 1, half, half + 1, last - 1, last, last + 1, most]
