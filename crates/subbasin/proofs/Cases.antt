@@ -50,13 +50,13 @@ answered r rs rg q wd g vg =
       q = q;
     }
 
-whole_a : stepped_whole case_a weather_a ≡ answered 30000 25556 1111 26668 25000 2222 555
+-- PE in one: the first step, and the third, without rain
+abbrev whole_answer : Stepped
+whole_answer = answered 30000 25556 1111 26668 25000 2222 555
+
+whole_a : stepped_whole case_a weather_a ≡ whole_answer
 unfolding stepped_whole evaporated ep drained outflow content leaving waiting_after entered
 whole_a = rw whole_rain_lem
-
--- the third step of the same, without rain
-abbrev whole_left : Stepped
-whole_left = answered 30000 25556 1111 26668 25000 2222 555
 
 abbrev whole_after : Contents
 whole_after = record { wu = 10000; wl = 60000; wd = 25000; g = 1112; vi = 555; vg = 555 }
@@ -65,11 +65,11 @@ dry_rain_lem : unsliced case_a.fixed (layers_of whole_after) 2222 0 ≡ record {
 unfolding fast_after_slice
 dry_rain_lem = unsliced_fast _ _ _ _
 
-whole_3 : stepped_whole whole_left.after weather_3
+whole_3 : stepped_whole whole_answer.after weather_3
     ≡ record {
       number = 0;
       place = 0;
-      after = record { fixed = case_a.fixed; contents = whole_after; line = whole_left.after.line; channel = 0 };
+      after = record { fixed = case_a.fixed; contents = whole_after; line = case_a.line; channel = 0 };
       eu = 10000;
       el = 0;
       ed = 0;
@@ -83,6 +83,7 @@ whole_3 : stepped_whole whole_left.after weather_3
 unfolding stepped_whole evaporated deeper ep drained outflow content leaving waiting_after entered
 whole_3 = rw dry_rain_lem
 
+-- by slices
 pub step_a : stepped case_a weather_a ≡ answered 29970 20246 2431 22678 25030 4862 1215
 unfolding fast_stepped
 step_a = stepped_fast _ _
