@@ -5,7 +5,7 @@ use lib.ListN.{replicate}
 use Rattle.common.specs.Amounts.{sum}
 use Rattle.common.specs.Cases.{Agree}
 use Rattle.curve.specs.Store.{outflow, content}
-use Rattle.subbasin.specs.declared.record.Contents.{Contents}
+use Rattle.subbasin.specs.declared.soil.Layers.{Layers}
 use Rattle.subbasin.specs.Content.{water}
 use Rattle.subbasin.specs.Soil.{ep, deeper, evaporated}
 use Rattle.subbasin.specs.FreeWater.{drained}
@@ -26,20 +26,20 @@ sliced_rain_lem : sliced_rain ≡ record { rb = 0; r = 29970; rs = 20246; layers
 unfolding fast_sliced
 sliced_rain_lem = sliced_fast _ _ _ _
 
--- no evapotranspiration and no RB; WU and WL are full, RI is RG and VI is VG
-abbrev answered : ℕ → ℕ → ℕ → ℕ → ℕ → ℕ → ℕ → Stepped
-answered r rs rg q wd g vg =
+-- no EL, ED or RB; WL is full, RI is RG and VI is VG
+abbrev answered : ℕ → ℕ → ℕ → ℕ → ℕ → ℕ → ℕ → ℕ → ℕ → Stepped
+answered eu r rs rg q wu wd g vg =
     record {
       number = 0;
       place = 0;
       after =
           record {
             fixed = case_a.fixed;
-            contents = record { wu = 20000; wl = 60000; wd = wd; g = g; vi = vg; vg = vg };
+            contents = record { wu = wu; wl = 60000; wd = wd; g = g; vi = vg; vg = vg };
             line = record { lag = 0; waiting = replicate 15 0 };
             channel = 0;
           };
-      eu = 0;
+      eu = eu;
       el = 0;
       ed = 0;
       rb = 0;
@@ -51,40 +51,29 @@ answered r rs rg q wd g vg =
     }
 
 -- PE in one: the first step, and the third, without rain
-abbrev whole_answer : Stepped
-whole_answer = answered 30000 25556 1111 26668 25000 2222 555
+abbrev whole_1 : Stepped
+whole_1 = answered 0 30000 25556 1111 26668 20000 25000 2222 555
 
-whole_a : stepped_whole case_a weather_a ≡ whole_answer
+abbrev whole_3 : Stepped
+whole_3 = answered 10000 0 0 555 1110 10000 25000 1112 555
+
+whole_1_lem : stepped_whole case_a weather_a ≡ whole_1
 unfolding stepped_whole evaporated ep drained outflow content leaving waiting_after entered
-whole_a = rw whole_rain_lem
+whole_1_lem = rw whole_rain_lem
 
-abbrev whole_after : Contents
-whole_after = record { wu = 10000; wl = 60000; wd = 25000; g = 1112; vi = 555; vg = 555 }
+abbrev layers_3 : Layers
+layers_3 = layers_of whole_3.after.contents
 
-dry_rain_lem : unsliced case_a.fixed (layers_of whole_after) 2222 0 ≡ record { rb = 0; r = 0; rs = 0; layers = layers_of whole_after; kept = 2222 }
+dry_rain_lem : unsliced case_a.fixed layers_3 2222 0 ≡ record { rb = 0; r = 0; rs = 0; layers = layers_3; kept = 2222 }
 unfolding fast_after_slice
 dry_rain_lem = unsliced_fast _ _ _ _
 
-whole_3 : stepped_whole whole_answer.after weather_3
-    ≡ record {
-      number = 0;
-      place = 0;
-      after = record { fixed = case_a.fixed; contents = whole_after; line = case_a.line; channel = 0 };
-      eu = 10000;
-      el = 0;
-      ed = 0;
-      rb = 0;
-      r = 0;
-      rs = 0;
-      ri = 555;
-      rg = 555;
-      q = 1110;
-    }
+whole_3_lem : stepped_whole whole_1.after weather_3 ≡ whole_3
 unfolding stepped_whole evaporated deeper ep drained outflow content leaving waiting_after entered
-whole_3 = rw dry_rain_lem
+whole_3_lem = rw dry_rain_lem
 
 -- by slices
-pub step_a : stepped case_a weather_a ≡ answered 29970 20246 2431 22678 25030 4862 1215
+pub step_a : stepped case_a weather_a ≡ answered 0 29970 20246 2431 22678 20000 25030 4862 1215
 unfolding fast_stepped
 step_a = stepped_fast _ _
 
@@ -107,7 +96,7 @@ above_pan = ap RbAndR (stepped_fast _ _)
 pub step_cases_lem : Agree step_cases
 unfolding outflow water sum
 step_cases_lem =
-    rw (whole_a, whole_3, whole_rain_lem, step_a, sliced_rain_lem) (
+    rw (whole_1_lem, whole_3_lem, whole_rain_lem, step_a, sliced_rain_lem) (
       refl,
       (refl, (refl, (refl, (refl, (refl, (refl, (refl, (refl, (refl, (refl, (refl, (refl, (refl, (refl, (refl, (refl, (seven, (eight, (above_pan, tt))))))))))))))))))),
     )
