@@ -105,14 +105,16 @@ mod tests {
         unreachable!("a content falls")
     }
 
-    /// The two rules on ground stores with CG 0.5, 0.9, 0.95, 0.98 and 0.99.
+    /// Rounded down and to the nearest, ground stores with CG 0.5, 0.9, 0.95, 0.98, 0.99 and the greatest.
     #[test]
     fn left_alone_a_store_keeps_less() {
         let down = |g, content| g * content / WHOLE;
         let nearest = |g, content| Store { a: g, g, content }.take(0).outflow;
         let cases = [
             (32_768, 1_000_000, (20, 1), (20, 0)),
+            (32_768, 100, (7, 1), (7, 0)),
             (6_554, 1_000_000, (115, 9), (115, 4)),
+            (6_554, 100, (27, 9), (28, 4)),
             (3_277, 1_000_000, (223, 19), (223, 9)),
             (3_277, 100, (41, 19), (43, 9)),
             (1_311, 1_000_000, (519, 49), (519, 24)),
@@ -120,6 +122,7 @@ mod tests {
             (656, 1_000_000, (974, 99), (974, 49)),
             (656, 100, (1, 99), (51, 49)),
             (1, 1_000_000, (214_224, 65_535), (216_409, 32_767)),
+            (1, 100, (0, 100), (0, 100)),
         ];
         for (g, content, before, now) in cases {
             assert_eq!(left_alone(g, content, down), before, "{g} {content}");
