@@ -5,17 +5,16 @@ use mathlib.Core.List.{List, [], ◌∷◌, map}
 use Prim.Native.Nat.{ℕ, ◌+◌}
 use native.Mathlib.Omega.{arith}
 use lib.ListN.{replicate}
-use lib.Ieee.{of_bits}
 use Rattle.common.specs.declared.weather.Weather.{Weather}
 use Rattle.common.specs.Limits.{first_out}
 use Rattle.common.specs.Amounts.{sum}
-use Rattle.common.specs.Loops.{run, filled, sum_of, every, first_bad}
+use Rattle.common.specs.Loops.{run, filled, sum_of}
 use Rattle.common.specs.Bytes.{word_at}
 use Rattle.common.specs.Weather.{calm}
 use Rattle.curve.specs.Store.{outflow, content}
 use Rattle.forcing.specs.List.{Forcing}
-use Rattle.forcing.specs.Depth.{numerator, denominator, nearest, depth_of, from_zero_to, unfit, above_limit, number_of}
-use Rattle.forcing.specs.List.{weather_of, line_inside, is_inside, line_number, refusal, judged_lines, reading}
+use Rattle.forcing.specs.List.{refusal, reading}
+use Rattle.forcing.proofs.OnWords.{lines_on_words}
 use Rattle.subbasin.specs.declared.record.Contents.{Contents}
 use Rattle.subbasin.specs.declared.record.SubBasin.{SubBasin}
 use Rattle.subbasin.specs.Step.{Stepped}
@@ -113,25 +112,25 @@ abbrev forcing_b1 : Forcing
 forcing_b1 = forcing_of 0 (fallen 1000 30000) (fallen 120500 3000)
 
 reading_b1 : reading call_b1.lines 2 2 ≡ forcing_b1
-unfolding of_bits number_of unfit above_limit depth_of nearest numerator denominator line_number weather_of first_bad sum_of filled judged_lines reading
+unfolding lines_on_words
 reading_b1 = refl
 
 reading_b2 : reading call_b2.lines 2 2 ≡ refusal 6 2
-unfolding of_bits number_of unfit above_limit depth_of nearest numerator denominator line_number weather_of first_bad sum_of filled judged_lines reading
+unfolding lines_on_words
 reading_b2 = refl
 
 abbrev forcing_b3 : Forcing
 forcing_b3 = forcing_of 1 (fallen 140000 4000) (fallen 1500 40000)
 
 reading_b3 : reading call_b3.lines 2 2 ≡ forcing_b3
-unfolding of_bits number_of unfit above_limit depth_of nearest numerator denominator line_number weather_of first_bad sum_of filled judged_lines reading
+unfolding lines_on_words
 reading_b3 = refl
 
 abbrev forcing_b4 : Forcing
 forcing_b4 = forcing_of 1 (fallen 0 2500) (fallen 25250 500)
 
 reading_b4 : reading call_b4.lines 2 2 ≡ forcing_b4
-unfolding of_bits number_of unfit above_limit depth_of nearest numerator denominator line_number weather_of first_bad sum_of filled judged_lines reading
+unfolding lines_on_words
 reading_b4 = refl
 
 -- ---- the sub-basins' steps
@@ -278,7 +277,7 @@ unfolding content_of sum_of water sum
 started_b = rw file_basin_b
 
 rained_b : rains file_b calls_b ≡ 1428750
-unfolding rains rain_of_lines is_inside line_inside from_zero_to every sum_of weather_of of_bits depth_of nearest numerator denominator file_sub filled word_at
+unfolding rains rain_of_lines lines_on_words file_sub word_at
 rained_b = refl
 
 -- 1,591,969 + 339,281 = 502,500 + 1,428,750

@@ -5,18 +5,17 @@ use mathlib.Core.List.{List, [], ◌∷◌, ◌++◌, map}
 use Prim.Native.Nat.{ℕ, ◌+◌}
 use native.Mathlib.Omega.{arith}
 use lib.ListN.{replicate}
-use lib.Ieee.{of_bits}
 use Rattle.common.specs.Limits.{first_out}
 use Rattle.common.specs.Amounts.{sum}
-use Rattle.common.specs.Loops.{run, filled, sum_of, every, first_bad}
+use Rattle.common.specs.Loops.{run, filled, sum_of}
 use Rattle.common.specs.Bytes.{word_at}
 use Rattle.common.specs.Weather.{calm}
 use Rattle.common.specs.Cases.{Row, Agree}
 use Rattle.curve.specs.Cases.{curve_cases}
 use Rattle.curve.proofs.Cases.{curve_cases_lem}
 use Rattle.forcing.specs.List.{Forcing}
-use Rattle.forcing.specs.Depth.{numerator, denominator, nearest, depth_of, from_zero_to, unfit, above_limit, number_of}
-use Rattle.forcing.specs.List.{weather_of, line_inside, is_inside, line_number, refusal, judged_lines, reading}
+use Rattle.forcing.specs.List.{refusal, reading}
+use Rattle.forcing.proofs.OnWords.{lines_on_words}
 use Rattle.forcing.proofs.Cases.{sixteenth}
 use Rattle.subbasin.specs.declared.record.SubBasin.{SubBasin}
 use Rattle.subbasin.specs.Record.{blank_sub}
@@ -92,15 +91,15 @@ abbrev forcing_3 : Forcing
 forcing_3 = record { number = 0; place = 0; estimated = 0; weather = record { rain = 0; pan = 10000 } ∷ replicate 31 calm }
 
 reading_1 : reading call_1.lines 1 1 ≡ forcing_1
-unfolding of_bits number_of unfit above_limit depth_of nearest numerator denominator line_number weather_of first_bad sum_of filled judged_lines reading
+unfolding lines_on_words
 reading_1 = refl
 
 reading_2 : reading call_2.lines 1 1 ≡ refusal 6 1
-unfolding of_bits number_of unfit above_limit depth_of nearest numerator denominator line_number weather_of first_bad sum_of filled judged_lines reading
+unfolding lines_on_words
 reading_2 = refl
 
 reading_3 : reading call_3.lines 1 1 ≡ forcing_3
-unfolding of_bits number_of unfit above_limit depth_of nearest numerator denominator line_number weather_of first_bad sum_of filled judged_lines reading
+unfolding lines_on_words
 reading_3 = refl
 
 -- rain falls short of EP: 10,000 come out of the upper layer, and only the slow stores flow
@@ -194,7 +193,7 @@ unfolding content_of sum_of water sum
 started_a = rw file_basin_a
 
 rained_a : rains file_a calls_a ≡ 135000
-unfolding rains rain_of_lines is_inside line_inside from_zero_to every sum_of weather_of of_bits depth_of nearest numerator denominator file_sub filled word_at
+unfolding rains rain_of_lines lines_on_words file_sub word_at
 rained_a = refl
 
 -- 99,892 + 35,108 = 0 + 135,000

@@ -1,2 +1,3 @@
--- Worked examples over the definitions. The laws stand with their module, in the folder of its name.
+-- Worked examples over the definitions, and what they compute by. The laws stand with their module, in the folder of its name.
 pub mod Cases
+pub mod OnWords
