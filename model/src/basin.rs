@@ -237,7 +237,7 @@ mod tests {
         lines[1].pan = 100.5;
         assert_eq!(told(chain(), &lines, 3), (8, 2));
         lines[1].rain = Reading::Estimated(f32::NAN);
-        assert_eq!(told(chain(), &lines, 3), (7, 2));
+        assert_eq!(told(chain(), &lines, 3), (12, 2));
         lines[0] = NOTHING;
         assert_eq!(told(chain(), &lines, 3), (6, 1));
         assert_eq!(told(chain(), &lines, 4), (5, 0));

@@ -35,7 +35,7 @@ impl Kind {
     }
 }
 
-/// A depth call's answer, in µm. Refused: 7 or 8, place 0, depth 0.
+/// A depth call's answer, in µm. Refused: 7, 8, 12 or 13, place 0, depth 0.
 #[derive(Clone, Copy, Debug, PartialEq, Eq)]
 pub struct Depth {
     pub number: u64,
@@ -50,15 +50,29 @@ pub fn depth(millimetres: f32, kind: Kind) -> Depth {
     }
 }
 
-/// The depth, or 7 or 8. In double precision 1,000 times a single is exact, having 34 bits at
+/// The depth, or its fault. In double precision 1,000 times a single is exact, having 34 bits at
 /// most; so is its sum with a half, but for numbers so small that the sum stays below 1 anyhow.
 #[inline]
 fn micrometres(millimetres: f32, kind: Kind) -> Result<u64, u64> {
     if millimetres >= 0.0 && millimetres <= kind.limit() {
         return Ok(u64::from((1_000.0 * f64::from(millimetres) + 0.5) as u32));
     }
-    let above = millimetres > 0.0 && millimetres.is_finite();
-    Err(if above { 8 } else { 7 })
+    Err(fault(millimetres))
+}
+
+/// What a number is that is not from 0 to its limit: no number, infinite, below zero, or above.
+fn fault(millimetres: f32) -> u64 {
+    if millimetres.is_nan() {
+        return 12;
+    }
+    if millimetres.is_infinite() {
+        return 13;
+    }
+    if millimetres < 0.0 {
+        7
+    } else {
+        8
+    }
 }
 
 /// A step's line as depths in µm.
@@ -69,7 +83,7 @@ pub struct Depths {
     pub estimated: bool,
 }
 
-/// The line's depths, or its first fault: 6, 7 or 8, rain before pan.
+/// The line's depths, or its first fault, rain before pan: 6, or as of a depth call.
 #[inline]
 pub fn judge(line: &Line) -> Result<Depths, u64> {
     let (rain, estimated) = match line.rain {
@@ -109,7 +123,10 @@ mod tests {
         let negative = bits >> 31 == 1;
         let exponent = bits >> 23 & 0xff;
         let fraction = u128::from(bits & 0x7f_ffff);
-        if exponent == 0xff || negative && (exponent > 0 || fraction > 0) {
+        if exponent == 0xff {
+            return (if fraction > 0 { 12 } else { 13 }, 0);
+        }
+        if negative && (exponent > 0 || fraction > 0) {
             return (7, 0);
         }
         if exponent >= 150 {
@@ -156,9 +173,7 @@ mod tests {
 
     #[test]
     fn refused_depths() {
-        for number in
-            [f32::NAN, f32::INFINITY, f32::NEG_INFINITY, -1.0, f32::from_bits(0x8000_0001)]
-        {
+        for number in [-1.0, f32::MIN, f32::from_bits(0x8000_0001)] {
             assert_eq!(rain(number), (7, 0));
         }
         // Above 1,000 though it would round to 1,000,000 µm.
@@ -169,6 +184,20 @@ mod tests {
         assert_eq!(depth(100.000_01, Kind::Pan), Depth { number: 8, place: 0, depth: 0 });
     }
 
+    /// No number, signalling and quiet, first and last, and infinity, with either sign.
+    #[test]
+    fn no_finite_numbers() {
+        for sign in [0, 1 << 31] {
+            for bits in [0x7f80_0001, 0x7fbf_ffff, 0x7fc0_0000, 0x7fff_ffff] {
+                assert_eq!(rain(f32::from_bits(sign | bits)), (12, 0));
+            }
+            assert_eq!(rain(f32::from_bits(sign | 0x7f80_0000)), (13, 0));
+        }
+        let pan = |millimetres| depth(millimetres, Kind::Pan);
+        assert_eq!(pan(f32::NAN), Depth { number: 12, place: 0, depth: 0 });
+        assert_eq!(pan(f32::NEG_INFINITY), Depth { number: 13, place: 0, depth: 0 });
+    }
+
     #[test]
     fn the_first_fault_of_a_line() {
         let line = |rain, pan| judge(&Line { rain, pan });
@@ -176,6 +205,11 @@ mod tests {
         assert_eq!(line(Reading::Measured(1_001.0), f32::NAN), Err(8));
         assert_eq!(line(Reading::Estimated(1.0), 101.0), Err(8));
         assert_eq!(line(Reading::Measured(1.0), -1.0), Err(7));
+        assert_eq!(line(Reading::Measured(-1.0), f32::NAN), Err(7));
+        assert_eq!(line(Reading::Estimated(f32::NAN), f32::INFINITY), Err(12));
+        assert_eq!(line(Reading::Measured(f32::NEG_INFINITY), f32::NAN), Err(13));
+        assert_eq!(line(Reading::Measured(1.0), f32::NAN), Err(12));
+        assert_eq!(line(Reading::Estimated(1.0), f32::NEG_INFINITY), Err(13));
         let depths = Depths { rain: 1_000, pan: 2_000, estimated: true };
         assert_eq!(line(Reading::Estimated(1.0), 2.0), Ok(depths));
     }

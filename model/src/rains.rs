@@ -12,7 +12,7 @@ pub const RAINS: usize = 1_001;
 pub type Yields = [u64; RAINS];
 
 impl Basin {
-    /// The yields of a sub-basin, from 1, under a pan depth in millimetres; or the refusal: 9, 11, then the pan's 7 and 8.
+    /// The yields of a sub-basin, from 1, under a pan depth in millimetres; or the refusal: 9, 11, then the pan's.
     pub fn yields(&self, number: u64, pan: f32) -> Result<Yields, u64> {
         if !self.inside() {
             return Err(9);
@@ -99,8 +99,10 @@ mod tests {
         let basin = dipping(1);
         assert_eq!(basin.yields(1, -0.0), basin.yields(1, 0.0));
         assert_eq!(basin.yields(1, 100.0), basin.subs[0].yields(100_000));
-        for pan in [f32::NAN, f32::INFINITY, f32::NEG_INFINITY, -0.5] {
-            assert_eq!(basin.yields(1, pan), Err(7));
+        assert_eq!(basin.yields(1, -0.5), Err(7));
+        assert_eq!(basin.yields(1, f32::NAN), Err(12));
+        for pan in [f32::INFINITY, f32::NEG_INFINITY] {
+            assert_eq!(basin.yields(1, pan), Err(13));
         }
         assert_eq!(basin.yields(1, 100.062_5), Err(8));
     }

@@ -217,10 +217,10 @@ mod tests {
             "220 refused 6 3",
             "221 refused 6 3",
             "301 refused 8 5",
-            "402 refused 7 1",
+            "402 refused 12 1",
             "541 refused 8 2",
             "655 refused 6 2",
-            "846 refused 7 3",
+            "846 refused 13 3",
             "977 refused 6 1",
         ];
         assert_eq!((lines.len(), refused), (1_096, expected.to_vec()));

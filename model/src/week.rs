@@ -200,7 +200,7 @@ mod tests {
         for refused_at in 0..5 {
             let before = basin.week(&vec![WET; 3 * refused_at]);
             for (place, bad, number) in
-                [(1, MISSING, 6), (2, BROKEN, 7), (3, TOO_DRY, 8), (3, MISSING, 6)]
+                [(1, MISSING, 6), (2, BROKEN, 12), (3, TOO_DRY, 8), (3, MISSING, 6)]
             {
                 let mut lines = [WET; 15];
                 lines[14] = MISSING;

@@ -1,7 +1,7 @@
 -- The refusals' numbers: none is 0. Assumes nothing.
 use Rattle.std.proofs.Common.{◌<◌, arith}
 use Rattle.common.specs.declared.refusal.Refusal.{Refusal}
-use Rattle.common.specs.declared.refusal.Refusal.TheVariants.{FewBytes, Counts, Length, Word, LineCount, RainMissing, BadNumber, AboveLimit, BadBasin, OutOfRange, NoSuchSubBasin}
+use Rattle.common.specs.declared.refusal.Refusal.TheVariants.{FewBytes, Counts, Length, Word, LineCount, RainMissing, BelowZero, AboveLimit, BadBasin, OutOfRange, NoSuchSubBasin, NotANumber, Infinite}
 use Rattle.common.specs.Refusals.{number_of}
 
 pub number_some : (r : Refusal) → 0 < number_of r
@@ -11,8 +11,10 @@ number_some Length = omega arith
 number_some Word = omega arith
 number_some LineCount = omega arith
 number_some RainMissing = omega arith
-number_some BadNumber = omega arith
+number_some BelowZero = omega arith
 number_some AboveLimit = omega arith
 number_some BadBasin = omega arith
 number_some OutOfRange = omega arith
 number_some NoSuchSubBasin = omega arith
+number_some NotANumber = omega arith
+number_some Infinite = omega arith

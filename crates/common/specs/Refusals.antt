@@ -1,9 +1,9 @@
--- The refusals' numbers: document 01, "Who sent it"; and what they say, in words of ours.
+-- The refusals' numbers: document 01, "Who sent it", and document 02; and what they say, in words of ours.
 use Rattle.std.specs.Prelude.{ℕ, Bool, true, false, cond, List, ◌++◌, codes}
 use Rattle.std.specs.Fmt.{decimal}
 use Rattle.common.specs.declared.refusal.Refused.{Refused}
 use Rattle.common.specs.declared.refusal.Refusal.{Refusal}
-use Rattle.common.specs.declared.refusal.Refusal.TheVariants.{FewBytes, Counts, Length, Word, LineCount, RainMissing, BadNumber, AboveLimit, BadBasin, OutOfRange, NoSuchSubBasin}
+use Rattle.common.specs.declared.refusal.Refusal.TheVariants.{FewBytes, Counts, Length, Word, LineCount, RainMissing, BelowZero, AboveLimit, BadBasin, OutOfRange, NoSuchSubBasin, NotANumber, Infinite}
 
 abbrev pub number_of : Refusal → ℕ
 number_of FewBytes = 1
@@ -12,11 +12,13 @@ number_of Length = 3
 number_of Word = 4
 number_of LineCount = 5
 number_of RainMissing = 6
-number_of BadNumber = 7
+number_of BelowZero = 7
 number_of AboveLimit = 8
 number_of BadBasin = 9
 number_of OutOfRange = 10
 number_of NoSuchSubBasin = 11
+number_of NotANumber = 12
+number_of Infinite = 13
 
 -- what a refusal says
 abbrev pub refusal_text : Refusal → List ℕ
@@ -26,19 +28,23 @@ refusal_text Length = codes "a file whose length does not fit N and M"
 refusal_text Word = codes "a word outside its range"
 refusal_text LineCount = codes "a count of lines that does not fit N"
 refusal_text RainMissing = codes "rain missing"
-refusal_text BadNumber = codes "not a number, infinite or below zero"
+refusal_text BelowZero = codes "below zero"
 refusal_text AboveLimit = codes "above its limit"
 refusal_text BadBasin = codes "a basin that is not allowed"
 refusal_text OutOfRange = codes "an argument outside its range"
 refusal_text NoSuchSubBasin = codes "no such sub-basin"
+refusal_text NotANumber = codes "not a number"
+refusal_text Infinite = codes "infinite"
 
 -- whether it has a place of its own: a word of the file, or a line
 abbrev pub is_placed : Refusal → Bool
 is_placed Counts = true
 is_placed Word = true
 is_placed RainMissing = true
-is_placed BadNumber = true
+is_placed BelowZero = true
 is_placed AboveLimit = true
+is_placed NotANumber = true
+is_placed Infinite = true
 is_placed _ = false
 
 -- and what it says with its place

@@ -1,4 +1,4 @@
-// Why a call is refused, and where: document 01, "Who sent it".
+// Why a call is refused, and where: document 01, "Who sent it", and document 02.
 ghost use Rattle.std.specs.Prelude.{◌≡◌, Some};
 ghost use Rattle.common.specs.Refusals.{number_of, is_placed, refusal_text, refused_text};
 
@@ -19,8 +19,8 @@ pub enum Refusal {
     // A count of lines that isn't N.
     LineCount = 5,
     RainMissing = 6,
-    // No number, an infinity, or below zero.
-    BadNumber = 7,
+    // A finite number below zero.
+    BelowZero = 7,
     // Above the limit of rain or pan.
     AboveLimit = 8,
     // A basin handed in.
@@ -29,6 +29,9 @@ pub enum Refusal {
     OutOfRange = 10,
     // A question about a sub-basin that isn't there.
     NoSuchSubBasin = 11,
+    NotANumber = 12,
+    // Of either sign.
+    Infinite = 13,
 }
 
 impl Refusal {
@@ -48,8 +51,10 @@ impl Refusal {
             Refusal::Counts
                 | Refusal::Word
                 | Refusal::RainMissing
-                | Refusal::BadNumber
+                | Refusal::BelowZero
                 | Refusal::AboveLimit
+                | Refusal::NotANumber
+                | Refusal::Infinite
         )
     }
 }
@@ -65,11 +70,13 @@ impl fmt::Display for Refusal {
             Refusal::Word => "a word outside its range",
             Refusal::LineCount => "a count of lines that does not fit N",
             Refusal::RainMissing => "rain missing",
-            Refusal::BadNumber => "not a number, infinite or below zero",
+            Refusal::BelowZero => "below zero",
             Refusal::AboveLimit => "above its limit",
             Refusal::BadBasin => "a basin that is not allowed",
             Refusal::OutOfRange => "an argument outside its range",
             Refusal::NoSuchSubBasin => "no such sub-basin",
+            Refusal::NotANumber => "not a number",
+            Refusal::Infinite => "infinite",
         })
     }
 }

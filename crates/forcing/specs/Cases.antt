@@ -19,7 +19,7 @@ judges bits said number depth =
     row (depth_call (of_bits binary32 bits) said).number number ∷ row (depth_call (of_bits binary32 bits) said).depth depth ∷ []
 
 -- 0.0625, minus zero, the least number above 0, 1000 and the next number above it, 100 and the next number above it as pan and as rain,
--- the greatest number below 0, the infinities, not a number
+-- the greatest number below 0, the least and the greatest of all, the infinities, and two patterns of no number
 abbrev pub depth_calls : List Row
 depth_calls =
     judges 0x3d80_0000 Rain 0 63
@@ -31,9 +31,12 @@ depth_calls =
     ++ judges 0x42c8_0001 Pan 8 0
     ++ judges 0x42c8_0001 Rain 0 100000
     ++ judges 0x8000_0001 Pan 7 0
-    ++ judges 0x7f80_0000 Rain 7 0
-    ++ judges 0xff80_0000 Rain 7 0
-    ++ judges 0x7fc0_0000 Pan 7 0
+    ++ judges 0xff7f_ffff Rain 7 0
+    ++ judges 0x7f7f_ffff Pan 8 0
+    ++ judges 0x7f80_0000 Rain 13 0
+    ++ judges 0xff80_0000 Pan 13 0
+    ++ judges 0x7fc0_0000 Pan 12 0
+    ++ judges 0xff80_0001 Rain 12 0
 
 -- ---- lists of lines, by their three words: rain 135 and pan 10, the same estimated, and a missing one
 

@@ -1,5 +1,5 @@
--- One number in millimetres: document 01, "The forcing list", and the depth call of "Who sent it". Depths are in µm.
-use Rattle.std.specs.Prelude.{ℕ, ◌+◌, ◌*◌, ◌/◌, ◌≡◌, Bool, true, false, cond, not, ◌&&◌, ◌↔◌, ltb, leb, eqb, ℤ, List, codes, Float, Result, Ok, Err}
+-- One number in millimetres: document 01, "The forcing list", and the depth call of "Who sent it", with document 02, No. 7. Depths are in µm.
+use Rattle.std.specs.Prelude.{ℕ, ◌+◌, ◌*◌, ◌/◌, ◌≡◌, Bool, true, false, cond, not, ◌&&◌, ◌⊎◌, ◌↔◌, ltb, leb, eqb, ℤ, List, codes, Float, Result, Ok, Err}
 use Rattle.std.specs.Float.{nan, inf, fin}
 use Rattle.std.specs.Float.Ieee.{up, down}
 use Rattle.common.specs.declared.refusal.Refusal.{Refusal}
@@ -46,19 +46,16 @@ abbrev pub gauge_text : Gauge → List ℕ
 gauge_text Rain = codes "rain"
 gauge_text Pan = codes "pan"
 
--- "7 not a number, infinite or below zero"
-unfoldable pub unfit : Float → Bool
-unfit nan = true
-unfit (inf s) = true
-unfit (fin s m e) = s && ltb 0 m
-
 -- "8 above its limit", where the exact value is a / b
 unfoldable pub above_limit : ℕ → ℕ → ℕ → Bool
 above_limit limit a b = ltb (limit * b) a
 
--- the number's refusal, 0 where there is none
+-- the number's refusal, 0 where there is none: "7 means a finite number below zero only", "Not a number gives 12 and an infinity of either
+-- sign gives 13"
 unfoldable pub number_of : ℕ → Float → ℕ
-number_of limit x = cond (unfit x) 7 (cond (above_limit limit (numerator x) (denominator x)) 8 0)
+number_of limit nan = 12
+number_of limit (inf s) = 13
+number_of limit (fin s m e) = cond (s && ltb 0 m) 7 (cond (above_limit limit (m * up e) (down e)) 8 0)
 
 -- a depth call's answer, the depth in µm: number and place are 0 where it is accepted
 pub record Depth : Type 0 where
@@ -73,7 +70,7 @@ answer number depth = record { number = number; place = 0; depth = depth }
 unfoldable pub answer_by : ℕ → ℕ → Depth
 answer_by number depth = cond (eqb number 0) (answer 0 depth) (answer number 0)
 
--- "A depth call on one number, said to be rain or pan, gives 7, or 8 by that one's limit"
+-- "A depth call on one number, said to be rain or pan, gives 7, or 8 by that one's limit", and 12 and 13 "too"
 unfoldable pub depth_call : Float → Gauge → Depth
 depth_call x said = answer_by (number_of (limit_of said) x) (depth_of x)
 
@@ -82,11 +79,23 @@ abbrev pub as_depth : Result ℕ Refusal → Depth
 as_depth (Ok depth) = answer 0 depth
 as_depth (Err why) = answer (refusal_number why) 0
 
--- what document 01 says of the answer r, beside this rule
+-- "a finite number below zero"
+unfoldable pub below_zero : Float → Bool
+below_zero nan = false
+below_zero (inf s) = false
+below_zero (fin s m e) = s && ltb 0 m
+
+-- what the documents say of the answer r, beside this rule
 pub record JudgedNumber (x : Float) (said : Gauge) (r : Depth) : Type 0 where
   -- accepted exactly where the number is "from 0 to" its limit
   pub accepted : (r.number ≡ 0) ↔ (from_zero_to (limit_of said) x ≡ true)
   -- "Minus zero is zero": no digits, with either sign, are depth 0
   pub either_zero : (s : Bool) (e : ℤ) → x ≡ fin s 0 e → r ≡ answer 0 0
+  -- "7 means a finite number below zero only"
+  pub seven : (r.number ≡ 7) ↔ (below_zero x ≡ true)
+  -- "Not a number gives 12"
+  pub twelve : (r.number ≡ 12) ↔ (x ≡ nan)
+  -- "and an infinity of either sign gives 13"
+  pub thirteen : (r.number ≡ 13) ↔ ((x ≡ inf true) ⊎ (x ≡ inf false))
   -- "place 0, depth 0"
   pub refused : (r.number ≡ 0 → ⊥) → r ≡ answer r.number 0

@@ -1,4 +1,4 @@
--- The lines of one step: document 01, "The forcing list", and refusals 5 to 8 of "Who sent it".
+-- The lines of one step: document 01, "The forcing list" and the gauge readers of "Who sent it", with document 02, No. 7.
 -- Document 01 counts lines from 1, and so do places; the lists here count from 0.
 use Rattle.std.specs.Prelude.{ℕ, ◌+◌, ◌-◌, ◌≤◌, ◌<◌, ◌≡◌, Bool, true, false, cond, ◌&&◌, ◌↔◌, List, eqb, get_or, replicate, Result, Ok, Err}
 use Rattle.std.specs.Float.{binary32}
@@ -76,7 +76,8 @@ rain_number Missing = 6
 unfoldable pub line_number : Line → ℕ
 line_number l = cond (eqb (rain_number l.rain) 0) (number_of (limit_of Pan) l.pan) (rain_number l.rain)
 
--- "6 to 8 are for the first bad line, .. place its line": number and place, zeros where none of lines 1..n is bad
+-- "6 to 8", and 12 and 13 "where 7 was", "are for the first bad line, .. place its line": number and place, zeros where none of lines 1..n
+-- is bad
 abbrev pub first_bad_line : List Line → ℕ → ℕ × ℕ
 first_bad_line lines n = first_bad (λ k. line_number (line_at lines k)) n
 
@@ -121,7 +122,7 @@ pub record RainFirst (l : Line) (number : ℕ) : Type 0 where
   pub rain_bad : rain_inside l.rain ≡ false → number ≡ rain_number l.rain
   pub rain_good : rain_inside l.rain ≡ true → number ≡ number_of (limit_of Pan) l.pan
 
--- "6 to 8 are for the first bad line, rain before pan, place its line"
+-- "6 to 8", and 12 and 13, "are for the first bad line, rain before pan, place its line"
 pub record ForFirstBad (lines : List Line) (n : ℕ) (r : Forcing) : Type 0 where
   pub place_least : 1 ≤ r.place
   pub place_most : r.place ≤ n

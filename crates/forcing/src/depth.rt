@@ -1,5 +1,5 @@
-// One number in millimetres: document 01, "The forcing list", and the depth call of "Who sent it".
-ghost use Rattle.std.specs.Prelude.{◌≡◌, ◌^◌, Some};
+// One number in millimetres: document 01, "The forcing list", and the depth call of "Who sent it", with document 02, No. 7.
+ghost use Rattle.std.specs.Prelude.{◌≡◌, ◌^◌, false, Some, is_nan};
 ghost use Rattle.std.specs.Float.{binary32};
 ghost use Rattle.std.specs.Float.Ieee.{of_bits};
 ghost use Rattle.forcing.specs.Depth.{limit_of, gauge_text, as_depth, depth_call, JudgedNumber};
@@ -44,7 +44,7 @@ pub fn depth_of(x: f32, said: Gauge) -> Result<u64, Refusal>
     ensures judged { JudgedNumber x said (as_depth result) }
 {
     if x.is_nan() {
-        return Err(Refusal::BadNumber);
+        return Err(Refusal::NotANumber);
     }
     judge_bits(x.to_bits(), said)
 }
@@ -53,19 +53,20 @@ pub fn depth_of(x: f32, said: Gauge) -> Result<u64, Refusal>
 // fraction over 2^149 where the exponent is 0, and otherwise the fraction with a leading digit before it, over 2^(150 - exponent).
 #[tactic(auto, using(crate::proofs::depth::ValueLaws::bits_laws))]
 fn judge_bits(bits: u32, said: Gauge) -> Result<u64, Refusal>
+    requires { is_nan (of_bits binary32 bits) ≡ false }
     ensures { as_depth result ≡ depth_call (of_bits binary32 bits) said }
 {
     let exponent = (bits >> 23) & 0xff;
     let fraction = bits & 0x7f_ffff;
     if exponent == 0xff {
-        return Err(Refusal::BadNumber);
+        return Err(Refusal::Infinite);
     }
     // Minus zero is zero.
     if bits == 0x8000_0000 {
         return Ok(0);
     }
     if bits >> 31 == 1 {
-        return Err(Refusal::BadNumber);
+        return Err(Refusal::BelowZero);
     }
     if exponent == 0 {
         return scaled(fraction, 149, said);

@@ -1,4 +1,4 @@
-// The forcing list: document 01, "The forcing list", with refusals 5 to 8 and the depth call of "Who sent it", and the lines of the
+// The forcing list: document 01, "The forcing list", with the gauge readers and the depth call of "Who sent it", and the lines of the
 // forcing file.
 #![tactic(auto)]
 

@@ -1,4 +1,4 @@
-// The lines of one step: document 01, "The forcing list", and refusals 5 to 8 of "Who sent it".
+// The lines of one step: document 01, "The forcing list" and the gauge readers of "Who sent it".
 ghost use Rattle.std.specs.Prelude.{◌≡◌, IfOk, IfErr};
 ghost use Rattle.std.specs.Int.{from_bool};
 ghost use Rattle.common.specs.Refusals.{number_of};

@@ -6,6 +6,7 @@ use std::num::f32_from_bits_with_nan;
 use testing::chance::Chance;
 use testing::checksum::Checksum;
 use testing::lines::Row;
+use testing::patterns::PATTERNS;
 use testing::refusals;
 
 // Zeros, the least normals, infinities, a NaN, both limits, powers of 2, and the examples of document 01 and of a half.
@@ -42,12 +43,21 @@ const FRACTIONS: [u32; 4] = [0, 1, 0x40_0000, 0x7f_ffff];
 
 // Every series of a gauge, with the halves up to its limit.
 pub fn print(rt: &impl Print, said: Gauge, limit: u64) -> io::Result<()> {
+    patterns(rt, said)?;
     centres(rt, said)?;
     halves(rt, said)?;
     every_half(rt, said, limit)?;
     every_exponent(rt, said)?;
     drawn(rt, said, "any", |draws| numbers::any(draws))?;
     drawn(rt, said, "near", |draws| numbers::near(draws))
+}
+
+fn patterns(rt: &impl Print, said: Gauge) -> io::Result<()> {
+    let mut series = Series::new(said);
+    for pattern in PATTERNS {
+        series.print(rt, pattern)?;
+    }
+    series.end(rt, "patterns")
 }
 
 fn centres(rt: &impl Print, said: Gauge) -> io::Result<()> {

@@ -1,11 +1,38 @@
-// The reading of a step's lines: with a fault at every place, with two, with every count, and in a random series.
+// The reading of a step's lines: with rain and pan of every class of patterns, with a fault at every place, with two, with every count, and
+// in a random series.
 use crate::readings;
+use forcing::file;
 use forcing::list::{self, Line, Readings};
 use std::io;
 use testing::chance::Chance;
 use testing::checksum::Checksum;
 use testing::lines::Row;
+use testing::patterns::PATTERNS;
 use testing::refusals;
+
+// A second line whose rain is each pattern, measured and estimated, or missing: the numbers with each pattern as its pan.
+pub fn patterns(rt: &impl Print) -> io::Result<()> {
+    let mut sum = Checksum::default();
+    for kind in [1, 2] {
+        for rain in PATTERNS {
+            with_pans(rt, kind, rain, &mut sum)?;
+        }
+    }
+    with_pans(rt, 0, PATTERNS[0], &mut sum)?;
+    println!(rt; "lines {sum}")
+}
+
+fn with_pans(rt: &impl Print, kind: u32, rain: u32, sum: &mut Checksum) -> io::Result<()> {
+    print!(rt; "line {kind} {rain}")?;
+    for pan in PATTERNS {
+        let mut lines = readings::good();
+        lines[1] = file::line_of(kind, rain, pan);
+        let given = read(lines, 3, 3);
+        print!(rt; " {}", given.told[0])?;
+        given.add(sum);
+    }
+    println!(rt; "")
+}
 
 // A chosen line at a place, N and count at 32, up to the place and just before it.
 pub fn faults(rt: &impl Print) -> io::Result<()> {

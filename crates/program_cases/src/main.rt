@@ -7,7 +7,7 @@ use program::say;
 use std::fmt::InlineText;
 use std::io;
 
-const CASES: u8 = 18;
+const CASES: u8 = 19;
 
 fn main(rt: HostRuntime) -> io::Result<()> {
     cases(rt)?;

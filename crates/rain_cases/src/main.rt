@@ -15,6 +15,7 @@ fn main(rt: HostRuntime) -> io::Result<()> {
     dip::rows(&rt)?;
     drawn::rows(&rt)?;
     refusals::rows(&rt)?;
+    refusals::pans(&rt)?;
     outside::rows(&rt)?;
     records::rows(&rt)
 }

@@ -1,6 +1,6 @@
-// 9 before 11, and 11 before 7 and 8: numbers of a basin of two sub-basins below their range, at both its ends and above. A line for
-// each, with the number's place and its edge, and the answers for a good question, one with a bad sub-basin number, two with a bad
-// pan, and two with both.
+// 9 before 11, and 11 before the pan's refusals: numbers of a basin of two sub-basins below their range, at both its ends and above. A
+// line for each, with the number's place and its edge, and the answers for a good question, one with a bad sub-basin number, two with a
+// bad pan, and two with both.
 use crate::asked::Question;
 use basin_testing::{calls, places};
 use std::io;

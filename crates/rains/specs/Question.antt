@@ -9,7 +9,7 @@ use Rattle.basin.specs.State.{sub_at}
 use Rattle.basin.specs.Limits.{basin_in}
 
 -- the pan's depth, or the refusal: "11 stands for a sub-basin number outside 1..N, judged after 9 and before the pan's 7 and 8; each of these
--- has place 0"
+-- has place 0", and so 12 and 13, "each judged where 7 was"
 unfoldable pub asked : Basin → ℕ → Float → Depth
 asked b number pan = cond (basin_in b) (cond (within 1 number b.n) (depth_call pan Pan) (answer 11 0)) (answer 9 0)
 

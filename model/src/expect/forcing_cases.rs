@@ -1,12 +1,14 @@
 //! `forcing_cases`: the depth call and the reading of a step's lines.
 
 use super::draw::{Checksum, Draw};
+use super::patterns::PATTERNS;
 use crate::forcing::{depth, judge, Kind, Line, Reading, MOST_LINES};
 use std::io::{self, Write};
 
 pub fn print(out: &mut impl Write) -> io::Result<()> {
     Said { name: "rain", kind: Kind::Rain, limit: 1_000_000 }.print(out)?;
     Said { name: "pan", kind: Kind::Pan, limit: 100_000 }.print(out)?;
+    lines_of_patterns(out)?;
     faults(out)?;
     pairs(out)?;
     counts(out)?;
@@ -39,6 +41,7 @@ impl Said {
         let all = |_| true;
         let none = |_| false;
         let some = |i| i % 5_000 == 0;
+        self.series("patterns", PATTERNS.into_iter(), all, out)?;
         self.series("centres", CENTRES.into_iter().flat_map(beside), all, out)?;
         self.series("halves", HALVES.into_iter().flat_map(around_half), all, out)?;
         self.series("every half", (0..=self.limit).flat_map(around_half), none, out)?;
@@ -179,6 +182,26 @@ fn line(kind: u64, rain: u32, pan: u32) -> Line {
 fn chosen(row: usize) -> Line {
     let (kind, rain, pan) = LINES[row];
     line(kind, rain, pan)
+}
+
+/// A second line whose rain is each pattern, measured and estimated, or missing: the numbers with each pattern as its pan.
+fn lines_of_patterns(out: &mut impl Write) -> io::Result<()> {
+    let mut h = Checksum::default();
+    let missing = (0, PATTERNS[0]);
+    for (kind, rain) in
+        [1, 2].into_iter().flat_map(|kind| PATTERNS.map(|rain| (kind, rain))).chain([missing])
+    {
+        write!(out, "line {kind} {rain}")?;
+        for pan in PATTERNS {
+            let mut lines = good();
+            lines[1] = line(kind, rain, pan);
+            let answer = read(&lines, 3, 3);
+            write!(out, " {}", answer[0])?;
+            h.fold(&answer);
+        }
+        writeln!(out)?;
+    }
+    writeln!(out, "lines {}", h.0)
 }
 
 /// Good lines, all different.

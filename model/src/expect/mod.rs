@@ -8,6 +8,7 @@ mod draw;
 mod embedding;
 mod file_cases;
 mod forcing_cases;
+mod patterns;
 mod places;
 mod plans;
 pub mod program_cases;

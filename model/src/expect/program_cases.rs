@@ -1,5 +1,6 @@
 //! `program_cases`: the program's work on damaged and missing files, and all that it says of a refused load.
 
+use super::patterns::PATTERNS;
 use crate::bench;
 use crate::files::{bytes, case_a, case_b, line, Files, LineWords, ESTIMATED, MEASURED, MISSING};
 use crate::program;
@@ -38,6 +39,7 @@ fn cases() -> Vec<Case> {
         on_a([&estimated(65)[..], &[2; 7]].concat()),
         widest(),
         with_both(case_b()),
+        on_a(patterns()),
     ]
 }
 
@@ -60,6 +62,13 @@ fn shares_above_one() -> Vec<u8> {
 /// Steps of one sub-basin.
 fn estimated(count: u64) -> Vec<u8> {
     bytes((1..=count).flat_map(|step| line(ESTIMATED, step as f32 / 4.0, 1.0)))
+}
+
+/// Steps of one sub-basin: no rain reading and then each pattern as rain, with each pattern as pan.
+fn patterns() -> Vec<u8> {
+    let kinds = [MEASURED, ESTIMATED].into_iter().cycle();
+    let rains = [(MISSING, 0)].into_iter().chain(kinds.zip(PATTERNS));
+    bytes(rains.flat_map(|(kind, rain)| PATTERNS.map(|pan| [kind, rain, pan])).flatten())
 }
 
 /// 32 sub-basins and 31 reaches, 130 steps with estimated lines and refused ones, and a part step.

@@ -2,6 +2,7 @@
 
 use super::draft::numbers;
 use super::draw::Draw;
+use super::patterns::PATTERNS;
 use super::places::{edges, with};
 use super::plans::{loaded, ordinary, CHOICES, SHAPES};
 use super::weather::{drawn_line, drawn_lines};
@@ -15,6 +16,7 @@ pub fn print(out: &mut impl Write) -> io::Result<()> {
     dips(out)?;
     drawn(out)?;
     refusals(out)?;
+    pans(out)?;
     outside(out)?;
     records(out)
 }
@@ -98,7 +100,7 @@ fn depths(basin: &Basin, draw: &mut Draw, out: &mut impl Write) -> io::Result<()
     writeln!(out)
 }
 
-/// Three pans that are good, four that are no depths, and one above the limit.
+/// Three pans that are good, one that is no number, two infinite, one below zero and one above the limit.
 const PANS: [f32; 8] =
     [0.0, -0.0, 100.0, f32::NAN, f32::INFINITY, f32::NEG_INFINITY, -0.25, 100.062_5];
 
@@ -116,6 +118,22 @@ fn refusals(out: &mut impl Write) -> io::Result<()> {
                 writeln!(out)?;
             }
         }
+    }
+    Ok(())
+}
+
+/// Each pattern as the pan of a good question, of one with a bad sub-basin number, and of a basin with a bad area.
+fn pans(out: &mut impl Write) -> io::Result<()> {
+    let (_, chain) = SHAPES[0];
+    let basin = loaded(ordinary, chain, 2, 1, &mut Draw(1));
+    let outside = with(numbers(&basin), 2, 0);
+    for pattern in PATTERNS {
+        let pan = f32::from_bits(pattern);
+        write!(out, "pattern {pattern}")?;
+        for (basin, number) in [(&basin, 2), (&basin, 3), (&outside, 3)] {
+            told(&basin.yields(number, pan), 0, out)?;
+        }
+        writeln!(out)?;
     }
     Ok(())
 }
@@ -177,7 +195,7 @@ mod tests {
         let mut out = Vec::new();
         print(&mut out).unwrap();
         let printed = String::from_utf8(out).unwrap();
-        for number in ["7", "8", "9", "10", "11"] {
+        for number in ["7", "8", "9", "10", "11", "12", "13"] {
             let refused = format!(" {number} 0 0 0");
             let met = printed.lines().filter(|line| line.ends_with(&refused)).count();
             assert!(met >= 2, "{number} met {met} times");

@@ -298,7 +298,7 @@ mod tests {
         let printed = printed();
         let is_entry = |line: &&str| line.starts_with(|first: char| first.is_ascii_digit());
         let entries: Vec<&str> = printed.lines().filter(is_entry).collect();
-        for number in ["0", "5", "6", "7", "8"] {
+        for number in ["0", "5", "6", "7", "8", "12", "13"] {
             let met = entries.iter().filter(|line| line.split(' ').nth(2) == Some(number)).count();
             assert!(met >= 4, "{number} met {met} times");
         }

@@ -97,7 +97,7 @@ mod tests {
     /// What 2,000 cases come to print: every refusal that a file can bring about, and each ending.
     #[test]
     fn cases_of_every_kind() {
-        let mut seen = [0; 10];
+        let mut seen = [0; 14];
         let [mut accepted, mut short] = [0; 2];
         for seed in 0..2_000 {
             let bytes = |put| if let Put::File(bytes) = put { bytes } else { Vec::new() };
@@ -114,7 +114,7 @@ mod tests {
                 }
             }
         }
-        for number in [1, 2, 3, 4, 6, 7, 8] {
+        for number in [1, 2, 3, 4, 6, 7, 8, 12, 13] {
             assert!(seen[number] >= 20, "{number}: {seen:?}");
         }
         assert!(accepted > 20_000 && short > 100, "accepted {accepted} short {short}");

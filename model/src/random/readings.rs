@@ -87,6 +87,7 @@ fn pattern(chance: &mut Chance) -> u32 {
         0x7f7f_ffff,
         0x7f80_0000,
         0x7f80_0001,
+        0x7fbf_ffff,
         0x7fc0_0000,
         0x7fff_ffff,
     ];

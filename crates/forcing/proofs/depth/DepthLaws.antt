@@ -6,21 +6,15 @@ use Prim.Native.Nat.{ℕ, zero, suc, ◌+◌, ◌*◌, ◌/◌, ◌≤◌, ◌<�
 use native.Mathlib.Nat.{le_of_suc-le-suc, div-lt_iff_lt-mul, div-eq_of_lt, mul-pos}
 use native.Mathlib.Omega.{arith}
 use borrow.Author.Tests.{leb-true, le-leb, eq-eqb}
-use lib.Dec.{ltb, leb, eqb, eqb-suc-zero}
-use Rattle.std.proofs.lemmas.Bool.Decides.{nat_tests}
+use lib.Dec.{ltb, leb, eqb-suc-zero}
 use lib.IntN.{ℤ}
 use lib.Ieee.{Float, nan, inf, fin, up, down}
 use lib.Ieee.Fits.{down_pos}
 use Rattle.common.proofs.Limits.{refuted, parts}
 use Rattle.forcing.specs.declared.depth.Gauge.{Gauge}
 use Rattle.forcing.specs.Depth.{Depth, numerator, denominator, nearest, depth_of, limit_of, from_zero_to}
-use Rattle.forcing.specs.Depth.{unfit, above_limit, number_of, answer, answer_by, depth_call, JudgedNumber}
-
-pub number_test : (limit : ℕ) (x : Float) → eqb (number_of limit x) 0 ≡ from_zero_to limit x
-unfolding number_of unfit above_limit numerator denominator from_zero_to
-number_test limit nan = refl
-number_test limit (inf s) = refl
-number_test limit (fin s m e) = grind (arith, nat_tests)
+use Rattle.forcing.specs.Depth.{number_of, answer, answer_by, depth_call, JudgedNumber}
+use Rattle.forcing.proofs.depth.NumberLaws.{number_test, seven, twelve, thirteen}
 
 -- 1000 times a value up to the limit, to nearest, is at most 1000 times the limit
 pub depth_le : (limit : ℕ) (x : Float) → from_zero_to limit x ≡ true → depth_of x ≤ 1000 * limit
@@ -98,6 +92,9 @@ module _ (x : Float) (said : Gauge) where
           λ h. ap (λ (p : Depth). p.number) (depth_call_accepted x said h),
         );
         either_zero = λ s e z. rw z (zero_call said s e);
+        seven = rw call_number (seven (limit_of said) x);
+        twelve = rw call_number (twelve (limit_of said) x);
+        thirteen = rw call_number (thirteen (limit_of said) x);
         refused = call_zeros;
       }
 

@@ -15,7 +15,7 @@ use lib.Ieee.Fits.{down_pos}
 use lib.Ieee.Exact.{HasValue, odd_sign}
 use lib.Ieee.Nearest.{div_same}
 use Rattle.forcing.specs.declared.depth.Gauge.{Gauge}
-use Rattle.forcing.specs.Depth.{numerator, denominator, nearest, depth_of, limit_of, unfit, above_limit, number_of, answer, answer_by, depth_call}
+use Rattle.forcing.specs.Depth.{numerator, denominator, nearest, depth_of, limit_of, above_limit, number_of, answer, answer_by, depth_call}
 use Rattle.forcing.specs.Workers.{of_fraction}
 use Rattle.forcing.proofs.depth.FractionLaws.{limit_bounds, is_above, not_above}
 
@@ -40,7 +40,7 @@ module _ (x d a c : ℕ) (dp : 0 < d) (cp : 0 < c) (e : x * c ≡ a * d) where
 -- ---- a number and its fraction
 
 number_fraction : (x : Float) (said : Gauge) (a c : ℕ) → 0 < c → HasValue x false a c → depth_call x said ≡ of_fraction (limit_of said) a c
-unfolding depth_call number_of depth_of unfit numerator denominator
+unfolding depth_call number_of depth_of numerator denominator
 number_fraction nan said a c cp v = absurd v
 number_fraction (inf s) said a c cp v = absurd v
 number_fraction (fin true m e) said a c cp v = absurd (true≢false v.0)
@@ -48,20 +48,16 @@ number_fraction (fin false m e) said a c cp v = fraction_same (m * up e) (down e
 
 -- ---- a number that has no value from 0 on
 
-unfit_answer : (x : Float) (said : Gauge) → unfit x ≡ true → depth_call x said ≡ answer 7 0
+negative : (x : Float) (said : Gauge) (a c : ℕ) → 0 < a → HasValue x true a c → depth_call x said ≡ answer 7 0
 unfolding depth_call number_of answer_by
-unfit_answer x said h = rw h
-
-below_zero : (x : Float) (a c : ℕ) → 0 < a → HasValue x true a c → unfit x ≡ true
-unfolding unfit
-below_zero nan a c p v = refl
-below_zero (inf s) a c p v = refl
-below_zero (fin false m e) a c p v = absurd (true≢false (sym v.0))
-below_zero (fin true zero e) a c p v = absurd (none v.1 (mul-pos p (down_pos e)))
+negative nan said a c p v = absurd v
+negative (inf s) said a c p v = absurd v
+negative (fin false m e) said a c p v = absurd (true≢false (sym v.0))
+negative (fin true zero e) said a c p v = absurd (none v.1 (mul-pos p (down_pos e)))
   where
     none : 0 * up e * c ≡ a * down e → 0 < a * down e → ⊥
     none h k = omega arith
-below_zero (fin true (suc m) e) a c p v = lt-ltb 0 (suc m) (omega arith)
+negative (fin true (suc m) e) said a c p v = rw (lt-ltb 0 (suc m) (omega arith))
 
 -- ---- the fields of a pattern: the sign s, the exponent x and the fraction t
 
@@ -75,13 +71,14 @@ unfolding of_fields
 field_value s zero t h = odd_sign 24 s t 0 149
 field_value s (suc x) t h = rw (ne_eqb (suc x) 255 h) (odd_sign 24 s (8388608 + t) x 149)
 
-field_unfit : (s : Bool) (t : ℕ) → unfit (of_fields binary32 s 255 t) ≡ true
-unfolding of_fields unfit
-field_unfit s t = go (eqb t 0)
+field_infinite : (s : Bool) (t : ℕ) (said : Gauge) → is_nan (of_fields binary32 s 255 t) ≡ false
+    → depth_call (of_fields binary32 s 255 t) said ≡ answer 13 0
+unfolding of_fields is_nan depth_call number_of answer_by
+field_infinite s t said = go (eqb t 0)
   where
-    go : (b : Bool) → unfit (cond b (inf s) nan) ≡ true
-    go true = refl
-    go false = refl
+    go : (b : Bool) → is_nan (cond b (inf s) nan) ≡ false → depth_call (cond b (inf s) nan) said ≡ answer 13 0
+    go true h = refl
+    go false h = absurd (true≢false h)
 
 -- ---- a number that is not below zero, by its exponent
 
@@ -138,13 +135,13 @@ module _ (b : ℕ) (said : Gauge) (fits : b < 2 ^ 32) where
   masked_fraction : bit_and b 8388607 ≡ fraction
   masked_fraction = and_mask b 23
 
-  -- 7, not a number or infinite
-  pub infinite_bits : bit_and (b / 8388608) 255 ≡ 255 → depth_call number said ≡ answer 7 0
+  -- 13, as it is a number
+  pub infinite_bits : is_nan number ≡ false → bit_and (b / 8388608) 255 ≡ 255 → depth_call number said ≡ answer 13 0
   unfolding of_bits
-  infinite_bits h = unfit_answer number said (rw (sym masked_exponent ∙ h) (field_unfit (leb 2147483648 b) fraction))
+  infinite_bits n h = rw (sym masked_exponent ∙ h) (field_infinite (leb 2147483648 b) fraction said (rw (sym masked_exponent ∙ h) at n))
 
   pub minus_zero_bits : b ≡ 2147483648 → depth_call number said ≡ answer 0 0
-  unfolding of_bits number_of depth_of unfit numerator denominator nearest answer_by depth_call
+  unfolding of_bits number_of depth_of numerator denominator nearest answer_by depth_call
   minus_zero_bits h = rw (h, not_above (limit_of said) 0 1 zero-le)
 
   module _ (finite : bit_and (b / 8388608) 255 ≡ 255 → ⊥) where
@@ -154,10 +151,9 @@ module _ (b : ℕ) (said : Gauge) (fits : b < 2 ^ 32) where
     -- 7, below zero
     pub negative_bits : (b ≡ 2147483648 → ⊥) → b / 2147483648 ≡ 1 → depth_call number said ≡ answer 7 0
     negative_bits h s =
-        unfit_answer number said
-        (below_zero number (digits exponent fraction * 2 ^ pred exponent) (2 ^ 149)
+        negative number said (digits exponent fraction * 2 ^ pred exponent) (2 ^ 149)
         (mul-pos (some exponent refl) (pow_pos (pred exponent)))
-        (value true (le-leb 2147483648 b (omega arith)) known))
+        (value true (le-leb 2147483648 b (omega arith)) known)
       where
         some : (x : ℕ) → exponent ≡ x → 0 < digits x fraction
         some zero e = omega arith
@@ -185,8 +181,8 @@ pub ruleset bits_laws = (infinite_bits, minus_zero_bits, negative_bits, subnorma
 
 -- ---- not a number
 
-pub nan_answer : (x : Float) (said : Gauge) → true ≡ is_nan x → depth_call x said ≡ answer 7 0
-unfolding unfit is_nan
-nan_answer nan said h = unfit_answer nan said refl
+pub nan_answer : (x : Float) (said : Gauge) → true ≡ is_nan x → depth_call x said ≡ answer 12 0
+unfolding depth_call number_of answer_by is_nan
+nan_answer nan said h = refl
 nan_answer (inf s) said h = cc
 nan_answer (fin s m e) said h = cc

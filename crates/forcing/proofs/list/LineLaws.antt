@@ -18,10 +18,11 @@ use Rattle.forcing.specs.declared.depth.Gauge.TheVariants.{Rain, Pan}
 use Rattle.forcing.specs.declared.list.Reading.{Reading}
 use Rattle.forcing.specs.declared.list.Reading.TheVariants.{Measured, Estimated, Missing}
 use Rattle.forcing.specs.declared.list.Line.{Line}
-use Rattle.forcing.specs.Depth.{numerator, denominator, limit_of, from_zero_to, unfit, above_limit, number_of, answer, depth_call}
+use Rattle.forcing.specs.Depth.{limit_of, from_zero_to, above_limit, number_of, answer, depth_call}
 use Rattle.forcing.specs.List.{blank, rain_depth, weather_of, rain_inside, line_inside, estimated_of, rain_number, line_number, RainFirst}
 use Rattle.forcing.specs.Workers.{rain_call}
-use Rattle.forcing.proofs.depth.DepthLaws.{number_test, depth_le, call_number, call_depth}
+use Rattle.forcing.proofs.depth.DepthLaws.{depth_le, call_number, call_depth}
+use Rattle.forcing.proofs.depth.NumberLaws.{number_test}
 
 -- ---- inside the limits
 
@@ -41,7 +42,7 @@ rain_first l = record { rain_bad = λ h. rw (rain_test l.rain, h); rain_good = �
 
 -- past the end of a list rain is missing
 pub blank_number : line_number blank ≡ 6
-unfolding of_bits line_number number_of unfit above_limit numerator denominator
+unfolding of_bits line_number number_of above_limit
 blank_number = refl
 
 rain_le : (r : Reading) → rain_inside r ≡ true → rain_depth r ≤ most_rain

@@ -1,8 +1,9 @@
 -- `forcing::depth::depth_of` meets its contract: only a NaN has no bits, and any other number is what its bits stand for.
 -- Assumes nothing.
 use mathlib.Core.Path.{◌≡◌, sym, ap, subst, ◌∙◌}
+use mathlib.Core.Bool.{true}
 use lib.Dec.{T}
-use lib.Ieee.{Float, binary32, fits}
+use lib.Ieee.{Float, binary32, fits, of_bits, to_bits, is_nan}
 use lib.Ieee.Bits.{of_bits-to_bits}
 use Rattle.forcing.specs.declared.depth.Gauge.{Gauge}
 use Rattle.forcing.specs.Depth.{Depth, depth_call, JudgedNumber}
@@ -18,9 +19,12 @@ answered x said e = record { answered = sym e; judged = rw (← e) (call_judged 
 pub returns-then-is_nan : goal.returns-then-is_nan
 returns-then-is_nan c = answered _ _ (nan_answer c.args.x c.args.said c.if-is_nan.ensures.value)
 
+-- what owning an `f32` tells: the format holds it
+same : (x : Float) → fits binary32 x ≡ true → of_bits binary32 (to_bits binary32 x) ≡ x
+same x h = of_bits-to_bits binary32 x (subst T (sym h) tt)
+
+pub judge_bits-requires : goal.judge_bits-requires
+judge_bits-requires c = ap is_nan (same c.args.x c.well_formed.0.1) ∙ sym c.if-is_nan.ensures.value
+
 pub returns : goal.returns
-returns c =
-    let x = c.args.x in
-    -- what owning an `f32` tells: the format holds it
-    let held : T (fits binary32 x) = subst T (sym c.well_formed.0.1) tt in
-    answered _ _ (ap (λ (y : Float). depth_call y c.args.said) (sym (of_bits-to_bits binary32 x held)) ∙ sym c.judge_bits.ensures)
+returns c = answered _ _ (ap (λ (y : Float). depth_call y c.args.said) (sym (same c.args.x c.well_formed.0.1)) ∙ sym c.judge_bits.ensures)
