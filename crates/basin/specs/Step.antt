@@ -84,7 +84,7 @@ abbrev pub as_outcome : Basin → Result Report Reason → Outcome
 as_outcome b (Ok r) = record { number = 0; place = 0; basin = b; report = r }
 as_outcome b (Err w) = refused_step b (number_of w.why) w.place
 
--- 5 to 8, and otherwise an accepted step
+-- the forcing's refusal, and otherwise an accepted step
 unfoldable pub answered : Basin → Forcing → Outcome
 answered b f = cond (eqb f.number 0) (taken b f) (refused_step b f.number f.place)
 

@@ -38,10 +38,15 @@ depth_calls =
     ++ judges 0x7fc0_0000 Pan 12 0
     ++ judges 0xff80_0001 Rain 12 0
 
--- ---- lists of lines, by their three words: rain 135 and pan 10, the same estimated, and a missing one
+-- ---- lists of lines, by their three words
 
+-- rain 135 and pan 10, the same estimated, and a missing one
 abbrev pub lines : List Line
 lines = line_of 1 0x4307_0000 0x4120_0000 ∷ line_of 2 0x4307_0000 0x4120_0000 ∷ line_of 0 0x4307_0000 0x4120_0000 ∷ []
+
+-- the first of these, and then a line of other words
+abbrev pub second : ℕ → ℕ → ℕ → List Line
+second kind rain pan = line_of 1 0x4307_0000 0x4120_0000 ∷ line_of kind rain pan ∷ []
 
 -- number, place and estimated lines, and the second line's weather
 abbrev pub reads : Forcing → ℕ → ℕ → ℕ → ℕ → ℕ → List Row
@@ -53,9 +58,14 @@ reads f number place estimated rain pan =
     ∷ row (get_or f.weather 1 calm).pan pan
     ∷ []
 
--- the first two, and all three
+-- the first two, and all three; then no number beside minus infinity, minus 1 beside no number, and minus infinity alone
 abbrev pub list_calls : List Row
-list_calls = reads (reading lines 2 2) 0 0 1 135000 10000 ++ reads (reading lines 3 3) 6 3 0 0 0
+list_calls =
+    reads (reading lines 2 2) 0 0 1 135000 10000
+    ++ reads (reading lines 3 3) 6 3 0 0 0
+    ++ reads (reading (second 1 0x7fc0_0000 0xff80_0000) 2 2) 12 2 0 0 0
+    ++ reads (reading (second 2 0xbf80_0000 0x7fc0_0000) 2 2) 7 2 0 0 0
+    ++ reads (reading (second 1 0x4307_0000 0xff80_0000) 2 2) 13 2 0 0 0
 
 abbrev pub forcing_cases : List Row
 forcing_cases = depth_calls ++ list_calls

@@ -70,7 +70,8 @@ answer number depth = record { number = number; place = 0; depth = depth }
 unfoldable pub answer_by : ℕ → ℕ → Depth
 answer_by number depth = cond (eqb number 0) (answer 0 depth) (answer number 0)
 
--- "A depth call on one number, said to be rain or pan, gives 7, or 8 by that one's limit", and 12 and 13 "too"
+-- "A depth call on one number, said to be rain or pan, gives 7, or 8 by that one's limit", and 12 and 13 "where 7 was, in the depth call
+-- on one number too"
 unfoldable pub depth_call : Float → Gauge → Depth
 depth_call x said = answer_by (number_of (limit_of said) x) (depth_of x)
 

@@ -76,8 +76,7 @@ rain_number Missing = 6
 unfoldable pub line_number : Line → ℕ
 line_number l = cond (eqb (rain_number l.rain) 0) (number_of (limit_of Pan) l.pan) (rain_number l.rain)
 
--- "6 to 8", and 12 and 13 "where 7 was", "are for the first bad line, .. place its line": number and place, zeros where none of lines 1..n
--- is bad
+-- "6 to 8 are for the first bad line, .. place its line", and 12 and 13 "where 7 was": number and place, zeros where none of lines 1..n is bad
 abbrev pub first_bad_line : List Line → ℕ → ℕ × ℕ
 first_bad_line lines n = first_bad (λ k. line_number (line_at lines k)) n
 
@@ -122,7 +121,7 @@ pub record RainFirst (l : Line) (number : ℕ) : Type 0 where
   pub rain_bad : rain_inside l.rain ≡ false → number ≡ rain_number l.rain
   pub rain_good : rain_inside l.rain ≡ true → number ≡ number_of (limit_of Pan) l.pan
 
--- "6 to 8", and 12 and 13, "are for the first bad line, rain before pan, place its line"
+-- "6 to 8 are for the first bad line, rain before pan, place its line", and 12 and 13 "where 7 was"
 pub record ForFirstBad (lines : List Line) (n : ℕ) (r : Forcing) : Type 0 where
   pub place_least : 1 ≤ r.place
   pub place_most : r.place ≤ n

@@ -68,7 +68,7 @@ zero_depth s e = none (down e) (down_pos e)
 zero_call : (said : Gauge) (s : Bool) (e : ℤ) → depth_call (fin s 0 e) said ≡ answer 0 0
 zero_call said s e = depth_call_accepted (fin s 0 e) said (zero_inside (limit_of said) s e) ∙ ap (answer 0) (zero_depth s e)
 
--- what document 01 says of it, in the contract of `depth_of`
+-- what the documents say of it, in the contract of `depth_of`
 module _ (x : Float) (said : Gauge) where
   pub call_number : (depth_call x said).number ≡ number_of (limit_of said) x
   unfolding depth_call

@@ -46,7 +46,7 @@ number_fraction (inf s) said a c cp v = absurd v
 number_fraction (fin true m e) said a c cp v = absurd (true≢false v.0)
 number_fraction (fin false m e) said a c cp v = fraction_same (m * up e) (down e) a c (down_pos e) cp v.1 (limit_of said)
 
--- ---- a number that has no value from 0 on
+-- ---- a number below zero
 
 negative : (x : Float) (said : Gauge) (a c : ℕ) → 0 < a → HasValue x true a c → depth_call x said ≡ answer 7 0
 unfolding depth_call number_of answer_by
@@ -135,7 +135,7 @@ module _ (b : ℕ) (said : Gauge) (fits : b < 2 ^ 32) where
   masked_fraction : bit_and b 8388607 ≡ fraction
   masked_fraction = and_mask b 23
 
-  -- 13, as it is a number
+  -- 13: a number of exponent 255 is an infinity
   pub infinite_bits : is_nan number ≡ false → bit_and (b / 8388608) 255 ≡ 255 → depth_call number said ≡ answer 13 0
   unfolding of_bits
   infinite_bits n h = rw (sym masked_exponent ∙ h) (field_infinite (leb 2147483648 b) fraction said (rw (sym masked_exponent ∙ h) at n))

@@ -11,7 +11,7 @@ use Rattle.forcing.proofs.depth.DepthLaws.{call_judged}
 use Rattle.forcing.proofs.depth.ValueLaws.{nan_answer}
 use Rattle.forcing.proofs.depth.depth_of.Goals as goal
 
--- the answer's equation, and with it what document 01 says of it
+-- the answer's equation, and with it what the documents say of it
 answered : (x : Float) (said : Gauge) {d : Depth} → depth_call x said ≡ d
     → record { answered : d ≡ depth_call x said; judged : JudgedNumber x said d }
 answered x said e = record { answered = sym e; judged = rw (← e) (call_judged x said) }
@@ -19,12 +19,12 @@ answered x said e = record { answered = sym e; judged = rw (← e) (call_judged 
 pub returns-then-is_nan : goal.returns-then-is_nan
 returns-then-is_nan c = answered _ _ (nan_answer c.args.x c.args.said c.if-is_nan.ensures.value)
 
--- what owning an `f32` tells: the format holds it
-same : (x : Float) → fits binary32 x ≡ true → of_bits binary32 (to_bits binary32 x) ≡ x
-same x h = of_bits-to_bits binary32 x (subst T (sym h) tt)
+-- a number that the format holds, as owning an `f32` tells, is what its bits stand for
+of_its_bits : (x : Float) → fits binary32 x ≡ true → of_bits binary32 (to_bits binary32 x) ≡ x
+of_its_bits x h = of_bits-to_bits binary32 x (subst T (sym h) tt)
 
 pub judge_bits-requires : goal.judge_bits-requires
-judge_bits-requires c = ap is_nan (same c.args.x c.well_formed.0.1) ∙ sym c.if-is_nan.ensures.value
+judge_bits-requires c = ap is_nan (of_its_bits c.args.x c.well_formed.0.1) ∙ sym c.if-is_nan.ensures.value
 
 pub returns : goal.returns
-returns c = answered _ _ (ap (λ (y : Float). depth_call y c.args.said) (sym (same c.args.x c.well_formed.0.1)) ∙ sym c.judge_bits.ensures)
+returns c = answered _ _ (ap (λ (y : Float). depth_call y c.args.said) (sym (of_its_bits c.args.x c.well_formed.0.1)) ∙ sym c.judge_bits.ensures)
