@@ -6,7 +6,8 @@ use Rattle.common.specs.Bytes.{word_at}
 use Rattle.common.specs.declared.refusal.Refused.{Refused}
 use Rattle.common.specs.Refusals.{number_of}
 use Rattle.subbasin.specs.declared.record.SubBasin.{SubBasin}
-use Rattle.subbasin.specs.Record.{word_count, words, of_words, words_of, blank_sub, most_start}
+use Rattle.subbasin.specs.declared.record.Sender.TheVariants.{Author}
+use Rattle.subbasin.specs.Record.{word_count, words, of_words, words_of, blank_sub}
 use Rattle.basin.specs.declared.reach.Reach.{Reach}
 use Rattle.basin.specs.declared.state.Basin.{Basin}
 use Rattle.basin.specs.Reach.{reach_word_count, reach_words, reach_words_of, blank_reach}
@@ -47,7 +48,7 @@ file_basin f =
 -- the words of sub-basins i, i + 1, .. and of reaches j, j + 1, .., so many as are left, with their ranges
 unfoldable pub sub_words : List ℕ → ℕ → ℕ → ℕ → List Word
 sub_words f m i zero = []
-sub_words f m i (suc left) = words m most_start (file_sub f i) ++ sub_words f m (suc i) left
+sub_words f m i (suc left) = words m Author (file_sub f i) ++ sub_words f m (suc i) left
 
 unfoldable pub reaches_words : List ℕ → ℕ → ℕ → ℕ → ℕ → List Word
 reaches_words f n m j zero = []

@@ -2,7 +2,8 @@
 ghost use Rattle.std.specs.Prelude.{◌≡◌, ◌↔◌, ◌≤◌, ◌<◌, ◌+◌, ◌*◌, ℕ, suc, List, length, unwrap_or, IsOk, IfOk, IfSome, refl};
 ghost use Rattle.std.proofs.Common.{lit≤};
 ghost use Rattle.common.specs.Limits.{Word, first_out};
-ghost use Rattle.subbasin.specs.Record.{word_count, words, most_start};
+ghost use Rattle.subbasin.specs.declared.record.Sender.TheVariants.{Author};
+ghost use Rattle.subbasin.specs.Record.{word_count, words};
 ghost use Rattle.basin.specs.Reach.{reach_word_count, reach_words};
 ghost use Rattle.basin.specs.File.{as_loaded, load_call, FileIn, Holds};
 ghost use Rattle.basin.specs.Account.{Demand3};
@@ -12,7 +13,7 @@ use crate::reach::{self, Reach};
 use crate::state::{Basin, MOST_REACHES, MOST_SUBS};
 use common::bytes::word;
 use common::refusal::{Refusal, Refused};
-use subbasin::record::{self, MOST_START, SubBasin};
+use subbasin::record::{self, Sender, SubBasin};
 
 // No file has fewer bytes.
 const LEAST_BYTES: u64 = 8;
@@ -77,7 +78,7 @@ trait Record: Copy {
 
     ghost sized: { (m j : ℕ) (r : Self) → length (words m j r) ≡ WORDS };
 
-    ghost few: { WORDS ≤ 23 };
+    ghost few: { WORDS ≤ word_count };
 }
 
 impl Record for SubBasin {
@@ -85,7 +86,7 @@ impl Record for SubBasin {
 
     ghost stored = { sub_stored };
 
-    ghost words = { λ m j s. words m most_start s };
+    ghost words = { λ m j s. words m Author s };
 
     ghost sized = { λ m j s. refl };
 
@@ -100,7 +101,7 @@ impl Record for SubBasin {
 
     #[tactic(auto, unfolding(subbasin::specs::Record::first_outside))]
     fn first_out(&self, _number: u64, m: u64) -> Option<usize> {
-        self.first_outside(m, MOST_START)
+        self.first_outside(m, Sender::Author)
     }
 }
 

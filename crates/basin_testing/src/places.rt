@@ -2,7 +2,7 @@
 use basin::reach::Reach;
 use basin::state::Basin;
 use std::{fmt, io};
-use subbasin::record::{self, MOST_SLOW};
+use subbasin::record::{self, Sender};
 use testing::chance;
 use testing::lines::Row;
 use testing::ranges::{Edge, Range};
@@ -111,7 +111,7 @@ fn range_of(b: &Basin, place: usize) -> Range {
         Spot::N => Range::of_n(),
         Spot::M => Range::of_m(),
         Spot::Sub { index, place } if (index as u64) < b.n => {
-            Range::of_number(&b.subs[index % 32], place, b.m, MOST_SLOW)
+            Range::of_number(&b.subs[index % 32], place, b.m, Sender::Host)
         }
         Spot::Reach { index, place } if (index as u64) < b.m => reach_range(b, index, place),
         _ => Range::between(0, 0),

@@ -4,14 +4,21 @@ use Rattle.common.specs.Shares.{one}
 use Rattle.common.specs.Limits.{Word, word, values, words_in, first_out}
 use Rattle.common.specs.Amounts.{all_up_to}
 use Rattle.subbasin.specs.declared.record.SubBasin.{SubBasin}
+use Rattle.subbasin.specs.declared.record.Sender.{Sender}
+use Rattle.subbasin.specs.declared.record.Sender.TheVariants.{Author, Host}
 use Rattle.subbasin.specs.Lag.{line_in}
 
 -- "23 words a sub-basin"
 abbrev pub word_count : ℕ
 word_count = 23
 
--- The words in the file's order, each with its range. REACH has the range 0..M, VI and VG 0..V.
-abbrev pub words : ℕ → ℕ → SubBasin → List Word
+-- "VI and VG each 0..1,000,000" in the file, "VI and VG have 0..2^33 here instead" in a basin handed in
+abbrev pub most_slow : Sender → ℕ
+most_slow Author = 1000000
+most_slow Host = 2 ^ 33
+
+-- The words in the file's order, each with its range. REACH has the range 0..M.
+abbrev pub words : ℕ → Sender → SubBasin → List Word
 words m v s =
     word 1 s.fixed.area 5000
     ∷ word 0 s.fixed.k 131072
@@ -34,17 +41,17 @@ words m v s =
     ∷ word 0 s.contents.wl s.fixed.lm
     ∷ word 0 s.contents.wd s.fixed.dm
     ∷ word 0 s.contents.g s.fixed.sm
-    ∷ word 0 s.contents.vi v
-    ∷ word 0 s.contents.vg v
+    ∷ word 0 s.contents.vi (most_slow v)
+    ∷ word 0 s.contents.vg (most_slow v)
     ∷ []
 
 -- the number of the first word outside its range, counted from 0, and the word count where none is
-unfoldable pub first_outside : ℕ → ℕ → SubBasin → ℕ
+unfoldable pub first_outside : ℕ → Sender → SubBasin → ℕ
 first_outside m v s = first_out (words m v s)
 
 -- the words alone
 abbrev pub words_of : SubBasin → List ℕ
-words_of s = values (words 0 0 s)
+words_of s = values (words 0 Host s)
 
 -- the record of so many words: "Lag lines, CS stores and reaches start empty"
 abbrev pub of_words : List ℕ → SubBasin
@@ -75,20 +82,13 @@ of_words v =
       channel = 0;
     }
 
--- V: "VI and VG each 0..1,000,000" in the file, "VI and VG have 0..2^33 here instead" in a basin handed in
-abbrev pub most_start : ℕ
-most_start = 1000000
-
-abbrev pub most_slow : ℕ
-most_slow = 2 ^ 33
-
 -- "a CS store or reach above 2^56"
 abbrev pub most_stored : ℕ
 most_stored = 2 ^ 56
 
 -- a record that 9 allows, with REACH up to m
 unfoldable pub record_in : ℕ → SubBasin → Bool
-record_in m s = words_in (words m most_slow s) && line_in s.line && leb s.channel most_stored
+record_in m s = words_in (words m Host s) && line_in s.line && leb s.channel most_stored
 
 -- "an unused record not zero": all zeros, as a record and as a test
 abbrev pub blank_sub : SubBasin

@@ -1,6 +1,6 @@
 // A sub-basin's record: the words of the basin file, the lag line and the channel store; and its limits.
 ghost use Rattle.std.specs.Prelude.{◌≡◌, ◌<◌, IfSome, unwrap_or};
-ghost use Rattle.subbasin.specs.Record.{word_count, words_of, of_words, first_outside, record_in, is_blank};
+ghost use Rattle.subbasin.specs.Record.{word_count, most_slow, words_of, of_words, first_outside, record_in, is_blank};
 
 use common::shares::ONE;
 use curve::store::MOST_CONTENT;
@@ -61,10 +61,26 @@ pub const NAMES: [&str; WORDS] = [
     "REACH", "WU", "WL", "WD", "G", "VI", "VG",
 ];
 
-// VI and VG: the most in the file, and the most in a basin handed in.
-pub const MOST_START: u64 = 1000000;
+// Who sent a record: what waits in it has a range by that.
+#[derive(Clone, Copy)]
+pub enum Sender {
+    // The file's author.
+    Author,
+    // A host program, which hands in a basin.
+    Host,
+}
 
-pub const MOST_SLOW: u64 = 1 << 33;
+impl Sender {
+    // The most of VI and VG.
+    pub fn most_slow(self) -> u64
+        ensures { result ≡ most_slow self }
+    {
+        match self {
+            Sender::Author => 1000000,
+            Sender::Host => 1 << 33,
+        }
+    }
+}
 
 // The record of a file's words. Lag line and CS store start empty.
 impl From<[u64; WORDS]> for SubBasin {
@@ -166,13 +182,14 @@ impl SubBasin {
         ]
     }
 
-    // The number of the first word outside its range, counted from 0. REACH is up to m, VI and VG up to v.
-    pub fn first_outside(&self, m: u64, v: u64) -> Option<usize>
-        ensures numbered { unwrap_or result word_count ≡ first_outside m v self.now }
+    // The number of the first word outside its range, counted from 0. REACH is up to m.
+    pub fn first_outside(&self, m: u64, sender: Sender) -> Option<usize>
+        ensures numbered { unwrap_or result word_count ≡ first_outside m sender self.now }
         ensures a_word { IfSome result (λ k. k < word_count) }
     {
         let p = &self.fixed;
         let w = &self.contents;
+        let slow = sender.most_slow();
         // the least that each may be, the word, and the most
         let words = [
             (1, p.area, 5000),
@@ -196,8 +213,8 @@ impl SubBasin {
             (0, w.wl, p.lm),
             (0, w.wd, p.dm),
             (0, w.g, p.sm),
-            (0, w.vi, v),
-            (0, w.vg, v),
+            (0, w.vi, slow),
+            (0, w.vg, slow),
         ];
         words.iter().position(|&(lo, x, hi)| x < lo || hi < x)
     }
@@ -207,7 +224,7 @@ impl SubBasin {
     pub fn allowed(&self, m: u64) -> bool
         ensures { result ≡ record_in m self.now }
     {
-        self.first_outside(m, MOST_SLOW).is_none()
+        self.first_outside(m, Sender::Host).is_none()
             && self.channel <= MOST_CONTENT
             && self.line.allowed()
     }

@@ -2,7 +2,7 @@
 use common::refusal::Refusal;
 use common::weather::{MOST_PAN, MOST_RAIN, Weather};
 use std::io;
-use subbasin::record::{MOST_SLOW, SubBasin};
+use subbasin::record::{Sender, SubBasin};
 use subbasin::step::Flows;
 use testing::checksum::Checksum;
 use testing::lines::Row;
@@ -61,7 +61,7 @@ impl Call {
 
     fn range_of(&self, place: usize) -> Range {
         match Spot::from(place) {
-            Spot::Record(place) => record_range(&self.record, place, MOST_SLOW),
+            Spot::Record(place) => record_range(&self.record, place, Sender::Host),
             Spot::Rain => Range::between(0, MOST_RAIN),
             Spot::Pan => Range::between(0, MOST_PAN),
         }
@@ -112,7 +112,7 @@ fn flows_of(given: &Result<Flows, Refusal>) -> [u64; 9] {
     }
 }
 
-// VI and VG are up to slow. REACH isn't judged: any word will do.
-pub fn record_range(record: &SubBasin, place: usize, slow: u64) -> Range {
-    Range::of_number(record, place, 4294967295, slow)
+// REACH isn't judged: any word will do.
+pub fn record_range(record: &SubBasin, place: usize, sender: Sender) -> Range {
+    Range::of_number(record, place, 4294967295, sender)
 }

@@ -4,7 +4,7 @@ ghost use Rattle.std.specs.Prelude.{◌≤◌};
 use crate::ranges::{self, Edge, Range};
 use crate::spots::Spot;
 use common::bytes;
-use subbasin::record::{self, MOST_START};
+use subbasin::record::{self, Sender};
 
 // The words of a reach.
 const REACH_WORDS: usize = 3;
@@ -77,7 +77,7 @@ impl File {
             Spot::M => Range::of_m(),
             Spot::Sub { place, .. } => {
                 let limit = self.word(ranges::limiting(at, place));
-                Range::of_word(place, limit, m, MOST_START)
+                Range::of_word(place, limit, m, Sender::Author)
             }
             Spot::Reach { place, .. } => {
                 Range::of_reach_word(place, self.word(at.saturating_sub(1)), m)

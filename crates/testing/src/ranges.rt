@@ -1,6 +1,6 @@
 // The ranges of a file's words and of a record's numbers: document 01, "The basin file" and "Who sent it".
 use crate::rows::{self, Numbers};
-use subbasin::record::{self, SubBasin};
+use subbasin::record::{self, Sender, SubBasin};
 
 // The least, the most, and what stands below.
 #[derive(Clone, Copy)]
@@ -53,8 +53,8 @@ impl Range {
         }
     }
 
-    // A sub-basin's word by its place and the word that limits it, with REACH up to m, and VI and VG up to slow.
-    pub fn of_word(place: usize, limit: u64, m: u64, slow: u64) -> Range {
+    // A sub-basin's word by its place and the word that limits it, with REACH up to m.
+    pub fn of_word(place: usize, limit: u64, m: u64, sender: Sender) -> Range {
         match place {
             0 => Range::between(1, 5000),
             1 => Range::between(0, 131072),
@@ -71,7 +71,7 @@ impl Range {
             15 => Range::between(0, 15),
             16 => Range::between(0, m),
             17..=20 => Range::between(0, limit),
-            _ => Range::between(0, slow), // VI and VG
+            _ => Range::between(0, sender.most_slow()), // VI and VG
         }
     }
 
@@ -93,10 +93,10 @@ impl Range {
     }
 
     // A record's number by its place: an amount in waiting that is not in use is 0.
-    pub fn of_number(s: &SubBasin, place: usize, m: u64, slow: u64) -> Range {
+    pub fn of_number(s: &SubBasin, place: usize, m: u64, sender: Sender) -> Range {
         if place < record::WORDS {
             let limit = Numbers::from(s).at(limiting(place, place));
-            return Range::of_word(place, limit, m, slow);
+            return Range::of_word(place, limit, m, sender);
         }
         let used = record::WORDS + (s.line.lag % 16) as usize;
         let most = if place < used {

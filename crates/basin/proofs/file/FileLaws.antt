@@ -15,7 +15,8 @@ use Rattle.common.specs.Loops.{filled, table}
 use Rattle.common.proofs.Limits.{within_in, within_not, first_skip, first_stop, InParts, parts_length, parts_le, Searching, search_begin, search_turn, search_found, search_none}
 use Rattle.common.proofs.Loops.{Filling, fill_begin, fill_turn, fill_end}
 use Rattle.subbasin.specs.declared.record.SubBasin.{SubBasin}
-use Rattle.subbasin.specs.Record.{word_count, words, blank_sub, most_start}
+use Rattle.subbasin.specs.declared.record.Sender.TheVariants.{Author}
+use Rattle.subbasin.specs.Record.{word_count, words, blank_sub}
 use Rattle.basin.specs.declared.reach.Reach.{Reach}
 use Rattle.basin.specs.Reach.{reach_word_count, reach_words, blank_reach}
 use Rattle.basin.specs.State.{most_subs, most_reaches}
@@ -70,7 +71,7 @@ module _ {R : Type 0} {size : ℕ} {x : ℕ → R} {part : ℕ → List Word} (s
 -- ---- the words of sub-basin i and of reach j, counted from 0
 
 abbrev pub sub_part : List ℕ → ℕ → ℕ → List Word
-sub_part f m i = words m most_start (file_sub f i)
+sub_part f m i = words m Author (file_sub f i)
 
 abbrev pub reach_part : List ℕ → ℕ → ℕ → ℕ → List Word
 reach_part f n m j = reach_words m (suc j) (file_reach f n j)
@@ -85,7 +86,7 @@ in_reaches f n m = record { none = λ j. refl; some = λ j left. refl; sized = �
 
 -- as they are read
 abbrev pub sub_read : List ℕ → ℕ → ℕ → List Word
-sub_read f m i = words m most_start (sub_stored f (2 + word_count * i))
+sub_read f m i = words m Author (sub_stored f (2 + word_count * i))
 
 abbrev pub reach_read : List ℕ → ℕ → ℕ → ℕ → List Word
 reach_read f n m j = reach_words m (suc j) (reach_stored f (2 + word_count * n + reach_word_count * j))

@@ -19,7 +19,8 @@ use Rattle.common.specs.Loops.{filled, table}
 use Rattle.common.specs.Bytes.{word_at}
 use Rattle.common.proofs.Limits.{within_in, within_limits, Within, words_limits, words_in_lem, within_append, first_all, first_none, parts_in}
 use Rattle.common.proofs.Loops.{table_length, table_in, table_past}
-use Rattle.subbasin.specs.Record.{word_count, words, words_of, blank_sub, most_start}
+use Rattle.subbasin.specs.declared.record.Sender.TheVariants.{Author}
+use Rattle.subbasin.specs.Record.{word_count, words, words_of, blank_sub}
 use Rattle.subbasin.proofs.record.RecordLaws.{words_read_back}
 use Rattle.basin.specs.declared.state.Basin.{Basin}
 use Rattle.basin.specs.Reach.{reach_word_count, reach_words_of, blank_reach}
@@ -90,7 +91,7 @@ module _ (f : List ℕ) where
     split_words =
         within_append (sub_words f (file_m f) 0 (file_n f)) (reaches_words f (file_n f) (file_m f) 0 (file_m f)) (words_limits (file_words f) h.in_words)
 
-    pub file_sub_words : (i : ℕ) → i < file_n f → Within (words (file_m f) most_start (file_sub f i))
+    pub file_sub_words : (i : ℕ) → i < file_n f → Within (words (file_m f) Author (file_sub f i))
     file_sub_words i l = parts_in (in_subs f (file_m f)) 0 (file_n f) split_words.0 i i (omega arith) l
 
     pub file_reach_words : (j : ℕ) → j < file_m f → ReachWords (file_m f) (suc j) (file_reach f (file_n f) j)

@@ -11,13 +11,14 @@ use Rattle.curve.proofs.capacity.CallLaws.{CurveIn}
 use Rattle.curve.proofs.capacity.HeldLaws.{rise_le}
 use Rattle.subbasin.specs.declared.record.Parameters.{Parameters}
 use Rattle.subbasin.specs.declared.record.SubBasin.{SubBasin}
+use Rattle.subbasin.specs.declared.record.Sender.{Sender}
 use Rattle.subbasin.specs.Record.{words}
 use Rattle.subbasin.specs.declared.free_water.Drained.{Drained}
 use Rattle.subbasin.specs.Workers.{FreeIn}
 use Rattle.subbasin.specs.FreeWater.{ms, level, keep, drained}
 use Rattle.common.proofs.Limits.{by_test, Within}
 
-module _ (m v : ℕ) (s : SubBasin) (h : Within (words m v s)) where
+module _ (m : ℕ) (v : Sender) (s : SubBasin) (h : Within (words m v s)) where
   pub free_in : FreeIn s.fixed
   free_in = omega arith
 

@@ -8,6 +8,7 @@ use Rattle.curve.specs.Capacity.{curve_in}
 use Rattle.curve.proofs.capacity.CallLaws.{curve_in_lem}
 use Rattle.subbasin.specs.declared.record.Parameters.{Parameters}
 use Rattle.subbasin.specs.declared.record.SubBasin.{SubBasin}
+use Rattle.subbasin.specs.declared.record.Sender.TheVariants.{Host}
 use Rattle.subbasin.specs.Workers.{SoilIn, LayersIn, FreeIn, soil_curve, free_curve}
 use Rattle.subbasin.specs.Record.{record_in}
 use Rattle.subbasin.specs.Soil.{wm, mm}
@@ -20,16 +21,16 @@ use Rattle.subbasin.proofs.free_water.FreeWaterLaws.{free_in, g_in, free_curve_l
 -- what 9 says of the soil and of free water
 module _ (s : SubBasin) (allowed : record_in s.fixed.reach s ≡ true) where
   pub soil_of : SoilIn s.fixed
-  soil_of = soil_in _ _ s (record_limits _ _ allowed).in_words
+  soil_of = soil_in _ Host s (record_limits _ _ allowed).in_words
 
   pub layers_fit : LayersIn s.fixed (layers_of s.contents)
-  layers_fit = layers_in _ _ s (record_limits _ _ allowed).in_words
+  layers_fit = layers_in _ Host s (record_limits _ _ allowed).in_words
 
   pub free_of : FreeIn s.fixed
-  free_of = free_in _ _ s (record_limits _ _ allowed).in_words
+  free_of = free_in _ Host s (record_limits _ _ allowed).in_words
 
   pub g_fits : s.contents.g ≤ s.fixed.sm
-  g_fits = g_in _ _ s (record_limits _ _ allowed).in_words
+  g_fits = g_in _ Host s (record_limits _ _ allowed).in_words
 
 pub ruleset ground_laws = (soil_of, free_of, layers_fit, g_fits)
 

@@ -22,6 +22,8 @@ use Rattle.common.proofs.amounts.AmountLaws.{UpTo, all_limits, all_in, listed_ta
 use Rattle.subbasin.specs.declared.record.Parameters.{Parameters}
 use Rattle.subbasin.specs.declared.record.Contents.{Contents}
 use Rattle.subbasin.specs.declared.record.SubBasin.{SubBasin}
+use Rattle.subbasin.specs.declared.record.Sender.{Sender}
+use Rattle.subbasin.specs.declared.record.Sender.TheVariants.{Host}
 use Rattle.subbasin.specs.Lag.{in_use, most_waiting, line_in}
 use Rattle.subbasin.specs.Record.{words, first_outside, words_of, of_words, word_count, most_slow, most_stored, record_in, is_blank, blank_sub}
 
@@ -48,7 +50,7 @@ first_place [] = refl
 first_place (w ∷ ws) = rw (in_range w.lo w.value w.hi, first_place ws) (ap (λ (k : ℕ). cond (within w.lo w.value w.hi) k 0) (omega arith))
 
 -- and as its answer: a number, or none where none is outside
-module _ (m v : ℕ) (s : SubBasin) where
+module _ (m : ℕ) (v : Sender) (s : SubBasin) where
   first_most : first_outside m v s ≤ word_count
   unfolding first_outside
   first_most = first_le (words m v s)
@@ -76,7 +78,7 @@ none_number None t = refl
 
 -- a record that 9 allows, with REACH up to m
 pub record RecordIn (m : ℕ) (s : SubBasin) : Type 0 where
-  pub in_words : Within (words m most_slow s)
+  pub in_words : Within (words m Host s)
   pub in_line : UpTo most_waiting s.line.waiting
   pub unused : UpTo 0 (drop (in_use s.line) s.line.waiting)
   pub in_channel : s.channel ≤ most_stored
@@ -87,11 +89,11 @@ module _ (m : ℕ) (s : SubBasin) where
   record_limits t =
       let us = all_up_to most_waiting s.line.waiting in
       let zs = all_up_to 0 (drop (in_use s.line) s.line.waiting) in
-      let a = parts (words_in (words m most_slow s) && (us && zs)) (leb s.channel most_stored) t in
-      let b = parts (words_in (words m most_slow s)) (us && zs) a.0 in
+      let a = parts (words_in (words m Host s) && (us && zs)) (leb s.channel most_stored) t in
+      let b = parts (words_in (words m Host s)) (us && zs) a.0 in
       let l = parts us zs b.1 in
       record {
-        in_words = words_limits (words m most_slow s) b.0;
+        in_words = words_limits (words m Host s) b.0;
         in_line = all_limits most_waiting s.line.waiting l.0;
         unused = all_limits 0 (drop (in_use s.line) s.line.waiting) l.1;
         in_channel = leb-true s.channel most_stored a.1;
@@ -102,23 +104,23 @@ module _ (m : ℕ) (s : SubBasin) where
   record_in_lem h =
       both
       (both
-      (words_in_lem (words m most_slow s) h.in_words)
+      (words_in_lem (words m Host s) h.in_words)
       (both (all_in most_waiting s.line.waiting h.in_line) (all_in 0 (drop (in_use s.line) s.line.waiting) h.unused)))
       (le-leb s.channel most_stored h.in_channel)
 
   -- the tests of a record, one after the other
-  pub words_fail : {n : ℕ} → n ≡ first_outside m most_slow s → (n ≡ word_count → ⊥) → false ≡ record_in m s
+  pub words_fail : {n : ℕ} → n ≡ first_outside m Host s → (n ≡ word_count → ⊥) → false ≡ record_in m s
   unfolding record_in first_outside
-  words_fail f h = sym (rw (refuted (words_in (words m most_slow s)) (λ t. h (f ∙ first_all (words m most_slow s) (words_limits (words m most_slow s) t)))))
+  words_fail f h = sym (rw (refuted (words_in (words m Host s)) (λ t. h (f ∙ first_all (words m Host s) (words_limits (words m Host s) t)))))
 
   pub channel_fails : most_stored < s.channel → false ≡ record_in m s
   unfolding record_in
   channel_fails h = sym (rw (lt-leb s.channel most_stored h, and-false))
 
-  pub only_line : {n : ℕ} → n ≡ first_outside m most_slow s → n ≡ word_count → s.channel ≤ most_stored → line_in s.line ≡ record_in m s
+  pub only_line : {n : ℕ} → n ≡ first_outside m Host s → n ≡ word_count → s.channel ≤ most_stored → line_in s.line ≡ record_in m s
   unfolding record_in first_outside
   only_line f h c =
-      sym (rw (words_in_lem (words m most_slow s) (first_none (words m most_slow s) (sym f ∙ h)), le-leb s.channel most_stored c, and-true))
+      sym (rw (words_in_lem (words m Host s) (first_none (words m Host s) (sym f ∙ h)), le-leb s.channel most_stored c, and-true))
 
 pub ruleset record_tests = (some_number, none_number, words_fail, channel_fails, only_line)
 
@@ -126,19 +128,19 @@ pub ruleset record_tests = (some_number, none_number, words_fail, channel_fails,
 pub record_other : (m m' : ℕ) (s : SubBasin) → RecordIn m s → s.fixed.reach ≤ m' → RecordIn m' s
 record_other m m' s h r =
     let ws = h.in_words in
-    record { in_words = within_join 17 (words m' most_slow s) (omega arith) (omega arith); in_line = h.in_line; unused = h.unused; in_channel = h.in_channel }
+    record { in_words = within_join 17 (words m' Host s) (omega arith) (omega arith); in_line = h.in_line; unused = h.unused; in_channel = h.in_channel }
 
 -- contents inside their ranges
-pub record ContentsIn (v : ℕ) (p : Parameters) (w : Contents) : Type 0 where
+pub record ContentsIn (v : Sender) (p : Parameters) (w : Contents) : Type 0 where
   pub wu_most : w.wu ≤ p.um
   pub wl_most : w.wl ≤ p.lm
   pub wd_most : w.wd ≤ p.dm
   pub g_most : w.g ≤ p.sm
-  pub vi_most : w.vi ≤ v
-  pub vg_most : w.vg ≤ v
+  pub vi_most : w.vi ≤ most_slow v
+  pub vg_most : w.vg ≤ most_slow v
 
 -- the words of a record that has other contents, REACH and its range apart
-pub words_with : (m m' v v' : ℕ) (s s' : SubBasin) → Within (words m v s) → s'.fixed ≡ s.fixed → s'.line.lag ≡ s.line.lag → s.fixed.reach ≤ m'
+pub words_with : (m m' : ℕ) (v v' : Sender) (s s' : SubBasin) → Within (words m v s) → s'.fixed ≡ s.fixed → s'.line.lag ≡ s.line.lag → s.fixed.reach ≤ m'
     → ContentsIn v' s.fixed s'.contents → Within (words m' v' s')
 words_with m m' v v' s s' h f l r c = within_join 17 (words m' v' s') (rw (f, l) (omega arith)) (rw f (omega arith))
 

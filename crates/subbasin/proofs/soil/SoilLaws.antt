@@ -12,6 +12,7 @@ use Rattle.curve.proofs.capacity.CallLaws.{CurveIn}
 use Rattle.curve.proofs.capacity.HeldLaws.{rise_le, le_rise}
 use Rattle.subbasin.specs.declared.record.Parameters.{Parameters}
 use Rattle.subbasin.specs.declared.record.SubBasin.{SubBasin}
+use Rattle.subbasin.specs.declared.record.Sender.{Sender}
 use Rattle.subbasin.specs.Record.{words}
 use Rattle.subbasin.specs.declared.soil.Layers.{Layers}
 use Rattle.subbasin.specs.declared.soil.Evaporated.{Evaporated}
@@ -22,7 +23,7 @@ use Rattle.subbasin.specs.Step.{layers_of}
 use Rattle.common.proofs.Limits.{by_test}
 use Rattle.common.proofs.Limits.{Within}
 
-module _ (m v : ℕ) (s : SubBasin) (h : Within (words m v s)) where
+module _ (m : ℕ) (v : Sender) (s : SubBasin) (h : Within (words m v s)) where
   pub soil_in : SoilIn s.fixed
   soil_in = omega arith
 

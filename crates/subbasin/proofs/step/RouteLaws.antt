@@ -7,6 +7,7 @@ use native.Mathlib.Omega.{arith}
 use Rattle.common.specs.Shares.{one}
 use Rattle.common.proofs.amounts.AmountLaws.{UpTo, up_to_at}
 use Rattle.subbasin.specs.declared.record.SubBasin.{SubBasin}
+use Rattle.subbasin.specs.declared.record.Sender.TheVariants.{Host}
 use Rattle.subbasin.specs.declared.record.LagLine.{LagLine}
 use Rattle.subbasin.specs.declared.slices.Sliced.{Sliced}
 use Rattle.subbasin.specs.declared.free_water.Drained.{Drained}
@@ -22,8 +23,8 @@ pub record RouteIn (s : SubBasin) : Type 0 where
   pub cg_in : s.fixed.cg ≤ one
   pub cs_in : s.fixed.cs ≤ one
   pub lag_in : s.line.lag ≤ 15
-  pub vi_in : s.contents.vi ≤ most_slow
-  pub vg_in : s.contents.vg ≤ most_slow
+  pub vi_in : s.contents.vi ≤ most_slow Host
+  pub vg_in : s.contents.vg ≤ most_slow Host
   pub channel_in : s.channel ≤ most_stored
 
 pub route_in : (s : SubBasin) → record_in s.fixed.reach s ≡ true → RouteIn s

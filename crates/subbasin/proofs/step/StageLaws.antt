@@ -6,6 +6,7 @@ use native.Mathlib.Omega.{arith}
 use Rattle.common.specs.declared.weather.Weather.{Weather}
 use Rattle.common.specs.Weather.{WeatherIn}
 use Rattle.subbasin.specs.declared.record.SubBasin.{SubBasin}
+use Rattle.subbasin.specs.declared.record.Sender.{Sender}
 use Rattle.subbasin.specs.declared.soil.Evaporated.{Evaporated}
 use Rattle.subbasin.specs.declared.slices.Sliced.{Sliced}
 use Rattle.subbasin.specs.declared.free_water.Drained.{Drained}
@@ -40,7 +41,7 @@ pub record Depths (s : SubBasin) (w : Weather) (st : Stepped) : Type 0 where
   pub wd_most : st.after.contents.wd ≤ s.fixed.dm
   pub g_most : st.after.contents.g ≤ s.fixed.sm
 
-pub depths : (m v : ℕ) (s : SubBasin) (w : Weather) → Within (words m v s) → WeatherIn w → Depths s w (stepped s w)
+pub depths : (m : ℕ) (v : Sender) (s : SubBasin) (w : Weather) → Within (words m v s) → WeatherIn w → Depths s w (stepped s w)
 unfolding stepped
 depths m v s weather h k =
     let p = s.fixed in

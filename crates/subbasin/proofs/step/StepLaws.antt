@@ -10,7 +10,8 @@ use Rattle.subbasin.specs.declared.record.Parameters.{Parameters}
 use Rattle.common.specs.declared.weather.Weather.{Weather}
 use Rattle.common.specs.Weather.{most_rain, WeatherIn}
 use Rattle.subbasin.specs.declared.record.SubBasin.{SubBasin}
-use Rattle.subbasin.specs.Record.{words, most_start, most_slow}
+use Rattle.subbasin.specs.declared.record.Sender.TheVariants.{Author, Host}
+use Rattle.subbasin.specs.Record.{words, most_slow}
 use Rattle.subbasin.specs.declared.slices.Sliced.{Sliced}
 use Rattle.subbasin.specs.declared.free_water.Drained.{Drained}
 use Rattle.subbasin.specs.Lag.{in_use, most_waiting, leaving, entered}
@@ -99,7 +100,7 @@ total_fits m s sl dr = inflow_fits m s (sl.rs + sl.rb) dr.ri dr.rg
 
 module _ (m : ℕ) (s : SubBasin) (w : Weather) (h : RecordIn m s) (k : WeatherIn w) where
   step_depths : Depths s w (stepped s w)
-  step_depths = depths m most_slow s w h.in_words k
+  step_depths = depths m Host s w h.in_words k
 
   module _ (n : length s.line.waiting ≡ 15) where
     pub step_balances : water s + s.fixed.area * w.rain
@@ -180,9 +181,9 @@ water_fits m s h n =
 
 -- What is true of every record that steps lead to from a file's, REACH apart: stronger than 9, so no step meets it.
 pub record Sound (s : SubBasin) : Type 0 where
-  pub in_words : Within (words s.fixed.reach most_slow s)
-  pub interflow : rest s.fixed.ci * s.contents.vi ≤ one * most_start
-  pub ground : rest s.fixed.cg * s.contents.vg ≤ one * most_start
+  pub in_words : Within (words s.fixed.reach Host s)
+  pub interflow : rest s.fixed.ci * s.contents.vi ≤ one * most_slow Author
+  pub ground : rest s.fixed.cg * s.contents.vg ≤ one * most_slow Author
   pub places : length s.line.waiting ≡ 15
   pub in_line : UpTo (2 ^ 34) s.line.waiting
   pub unused : UpTo 0 (drop (in_use s.line) s.line.waiting)
@@ -192,13 +193,13 @@ rest_le : (share v b : ℕ) → v ≤ b → rest share * v ≤ one * b
 rest_le share v b h = mul-le-mul {n₁ = rest share} {m₁ = v} {n₂ = one} {m₂ = b} (omega arith) h
 
 -- a record of the file: VI and VG up to 1,000,000, the line and the channel empty
-pub sound_file : (m : ℕ) (s : SubBasin) → Within (words m most_start s) → s.line.waiting ≡ replicate 15 0 → s.channel ≡ 0
+pub sound_file : (m : ℕ) (s : SubBasin) → Within (words m Author s) → s.line.waiting ≡ replicate 15 0 → s.channel ≡ 0
     → Sound s
 sound_file m s h e z =
     record {
-      in_words = words_with m s.fixed.reach most_start most_slow s s h refl refl (omega arith) (omega arith);
-      interflow = rest_le s.fixed.ci s.contents.vi most_start (omega arith);
-      ground = rest_le s.fixed.cg s.contents.vg most_start (omega arith);
+      in_words = words_with m s.fixed.reach Author Host s s h refl refl (omega arith) (omega arith);
+      interflow = rest_le s.fixed.ci s.contents.vi (most_slow Author) (omega arith);
+      ground = rest_le s.fixed.cg s.contents.vg (most_slow Author) (omega arith);
       places = rw e;
       in_line = rw e (up_to_zeros (2 ^ 34) 15);
       unused = rw e (up_to_drop 0 (in_use s.line) (replicate 15 0) (up_to_zeros 0 15));
@@ -209,7 +210,7 @@ pub sound_in : (m : ℕ) (s : SubBasin) → Sound s → s.fixed.reach ≤ m → 
 sound_in m s h l =
     let ws = h.in_words in
     record {
-      in_words = words_with s.fixed.reach m most_slow most_slow s s ws refl refl l (omega arith);
+      in_words = words_with s.fixed.reach m Host Host s s ws refl refl l (omega arith);
       in_line = up_to_more (2 ^ 34) (2 ^ 50) s.line.waiting (omega arith) h.in_line;
       unused = h.unused;
       in_channel = omega (arith, h.in_channel, mul-le-mul_right {m = 1} {n = rest s.fixed.cs} s.channel (omega arith));
@@ -217,22 +218,22 @@ sound_in m s h l =
 
 -- a slow store that never gets more than 100,000
 record Slow (share v i : ℕ) : Type 0 where
-  ceiling : holds share v i ≤ most_slow
-  held_down : rest share * holds share v i ≤ one * most_start
+  ceiling : holds share v i ≤ most_slow Host
+  held_down : rest share * holds share v i ≤ one * most_slow Author
   lets_go : let_go share v i ≤ 1100000
 
-slow : (share v i : ℕ) → share ≤ 65535 → i ≤ 100000 → v ≤ most_slow → rest share * v ≤ one * most_start → Slow share v i
+slow : (share v i : ℕ) → share ≤ 65535 → i ≤ 100000 → v ≤ most_slow Host → rest share * v ≤ one * most_slow Author → Slow share v i
 slow share v i hs hi hv hb =
-    let b = store_bounded {a = rest share} {g = rest share} (omega arith) (omega arith) v i 100000 (one * most_start) hi hb (omega arith) in
+    let b = store_bounded {a = rest share} {g = rest share} (omega arith) (omega arith) v i 100000 (one * most_slow Author) hi hb (omega arith) in
     record {
-      ceiling = store_ceiling {a = rest share} {g = rest share} (omega arith) (omega arith) v i 100000 most_slow (omega arith) (omega arith) hi hv (omega arith);
+      ceiling = store_ceiling {a = rest share} {g = rest share} (omega arith) (omega arith) v i 100000 (most_slow Host) (omega arith) (omega arith) hi hv (omega arith);
       held_down = b.0;
       lets_go = omega arith;
     }
 
 module _ (s : SubBasin) (w : Weather) (h : Sound s) (k : WeatherIn w) where
   sound_depths : Depths s w (stepped s w)
-  sound_depths = depths s.fixed.reach most_slow s w h.in_words k
+  sound_depths = depths s.fixed.reach Host s w h.in_words k
 
   interflow_slow : Slow s.fixed.ci s.contents.vi (stepped s w).ri
   interflow_slow =
@@ -279,7 +280,7 @@ module _ (s : SubBasin) (w : Weather) (h : Sound s) (k : WeatherIn w) where
       let g = ground_slow in
       record {
         in_words =
-            (words_with s.fixed.reach st.after.fixed.reach most_slow most_slow s st.after h.in_words r.fixed_kept kept.lag_same (omega (arith, ap (λ (p : Parameters). p.reach) r.fixed_kept)) (omega arith));
+            (words_with s.fixed.reach st.after.fixed.reach Host Host s st.after h.in_words r.fixed_kept kept.lag_same (omega (arith, ap (λ (p : Parameters). p.reach) r.fixed_kept)) (omega arith));
         interflow = rw (r.fixed_kept, r.vi_after) i.held_down;
         ground = rw (r.fixed_kept, r.vg_after) g.held_down;
         places = kept.places;

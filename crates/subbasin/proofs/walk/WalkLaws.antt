@@ -9,6 +9,7 @@ use Rattle.common.specs.Loops.{run}
 use Rattle.common.proofs.Limits.{Within, by_test}
 use Rattle.subbasin.specs.declared.record.Parameters.{Parameters}
 use Rattle.subbasin.specs.declared.record.SubBasin.{SubBasin}
+use Rattle.subbasin.specs.declared.record.Sender.{Sender}
 use Rattle.subbasin.specs.declared.soil.Layers.{Layers}
 use Rattle.subbasin.specs.declared.soil.Evaporated.{Evaporated}
 use Rattle.subbasin.specs.declared.soil.Runoff.{Runoff}
@@ -142,7 +143,7 @@ module _ (p : Parameters) (w : Layers) (g : ℕ) (soil : SoilIn p) (fits : Layer
           rw (net_rain_lem p w soil fits rain e, z, sliced_none p (evaporated p w rain e).layers g) (omega (arith, walk_none p (tension w)))
 
 -- what a rain yields is what the walk leaves of it
-pub yield_is : (m v : ℕ) (s : SubBasin) (pan k : ℕ) → Within (words m v s)
+pub yield_is : (m : ℕ) (v : Sender) (s : SubBasin) (pan k : ℕ) → Within (words m v s)
     → yield s pan k ≡ unsoaked s.fixed (tension (layers_of s.contents)) (ep s.fixed pan) k
 unfolding yield stepped unsoaked
 yield_is m v s pan k h =

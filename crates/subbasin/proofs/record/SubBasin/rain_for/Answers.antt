@@ -5,6 +5,7 @@ use Prim.Native.Nat.{ℕ}
 use native.Mathlib.Omega.{arith}
 use Rattle.subbasin.specs.declared.record.Parameters.{Parameters}
 use Rattle.subbasin.specs.declared.record.SubBasin.{SubBasin}
+use Rattle.subbasin.specs.declared.record.Sender.TheVariants.{Host}
 use Rattle.subbasin.specs.Soil.{tension, ep}
 use Rattle.subbasin.specs.Step.{layers_of, call_in}
 use Rattle.subbasin.specs.Yields.{Answer, raining, yield, Answers, refused, own_refusal}
@@ -23,7 +24,7 @@ accepted : (s : SubBasin) (pan wanted : ℕ) {p : Parameters} {w e : ℕ} (a : A
 accepted s pan wanted a t p-is w-is e-is h =
     rw (own_zero s pan t)
     (answers_same 0 _ (yield s pan) wanted a
-    (λ k. rw (e-is, p-is, w-is) (sym (yield_is _ _ s pan k (record_limits _ _ (called s (raining 0 pan) t).allowed).in_words))) h)
+    (λ k. rw (e-is, p-is, w-is) (sym (yield_is _ Host s pan k (record_limits _ _ (called s (raining 0 pan) t).allowed).in_words))) h)
 
 pub returns-then-not-accepts : goal.returns-then-not-accepts
 returns-then-not-accepts c = refused_by _ _ _ (own_ten _ _ (sym c.accepts.ensures ∙ c.if-not-accepts.true)) refl
