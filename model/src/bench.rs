@@ -6,7 +6,7 @@ use crate::expect::curve_speed::{self, argument, chain, ROUND};
 use crate::expect::rain_speed::{self, STATES};
 use crate::expect::week_speed::SIZES;
 use crate::files::{line, Files, LineWords, MEASURED};
-use crate::record::{range, WORDS};
+use crate::record::{range, Most, WORDS};
 use std::fs;
 use std::hint::black_box;
 use std::io::{self, Write};
@@ -22,9 +22,13 @@ pub fn files(years: u64, sub_basins: u64) -> Files {
     let mut chance = Chance::new(30);
     let basin = basin(sub_basins, &mut chance);
     let steps = 365 * years + years / 4;
-    let lines: Vec<LineWords> = (0..steps).flat_map(|_| day(sub_basins, &mut chance)).collect();
+    let lines: Vec<LineWords> =
+        (0..steps).flat_map(|day| lines(day, sub_basins, &mut chance)).collect();
     Files::of(basin, &lines)
 }
+
+/// The greatest VI, VG and SN of these files, below those that a file may have.
+const MOST: Most = Most { waiting: 100_000, snow: 500_000 };
 
 /// Every word from the middle half of its range, so every exponent of the curves is at hand.
 fn basin(n: u64, chance: &mut Chance) -> Vec<u32> {
@@ -33,7 +37,7 @@ fn basin(n: u64, chance: &mut Chance) -> Vec<u32> {
     for _ in 0..n {
         let mut sub = [0; WORDS];
         for place in 0..WORDS {
-            let (least, greatest) = range(&sub, place, m, 100_000);
+            let (least, greatest) = range(&sub, place, m, MOST);
             let quarter = (greatest - least) / 4;
             sub[place] = chance.within(least + quarter, greatest - quarter);
         }
@@ -45,11 +49,13 @@ fn basin(n: u64, chance: &mut Chance) -> Vec<u32> {
     words.into_iter().map(|word| word as u32).collect()
 }
 
-/// A day in three is wet.
-fn day(n: u64, chance: &mut Chance) -> Vec<LineWords> {
+/// A day in three is wet. From the midwinter that the files begin with the year warms by 25 degrees to midsummer.
+fn lines(day: u64, n: u64, chance: &mut Chance) -> Vec<LineWords> {
     let most = if chance.one_in(3) { 400 } else { 0 };
     let mut tenths = |most| chance.within(0, most) as f32 / 10.0;
-    (0..n).map(|_| line(MEASURED, tenths(most), tenths(60))).collect()
+    let from_midsummer = (day % 365).abs_diff(182) as f32;
+    let coldest = 15.0 - 25.0 * from_midsummer / 182.0;
+    (0..n).map(|_| line(MEASURED, tenths(most), tenths(60), coldest + tenths(100))).collect()
 }
 
 /// Years and sub-basins: the two marks, then how the time grows with steps and with sub-basins.

@@ -1,10 +1,14 @@
 //! The basin file.
 
 use crate::basin::{reach_word_inside, Basin, Reach, MOST_REACHES, MOST_SUB_BASINS};
-use crate::record::{range, Record, WORDS};
+use crate::record::{range, Most, Record, WORDS};
 
 /// Greatest VI and VG that a file may start with, µm.
 pub const GREATEST_START: u64 = 1_000_000;
+/// Greatest SN that a file may start with, µm.
+pub const GREATEST_SNOW_START: u64 = 3_000_000;
+
+pub const IN_FILE: Most = Most { waiting: GREATEST_START, snow: GREATEST_SNOW_START };
 
 /// A load's answer. Refused: 1 to 4, its place and the empty basin.
 #[derive(Clone, Copy, Debug, PartialEq, Eq)]
@@ -32,7 +36,7 @@ fn read(bytes: &[u8]) -> Result<Basin, (u64, u64)> {
     if m > MOST_REACHES as u64 {
         return Err((2, 1));
     }
-    if bytes.len() as u64 != 4 * (2 + 23 * n + 3 * m) {
+    if bytes.len() as u64 != 4 * (2 + 26 * n + 3 * m) {
         return Err((3, 0));
     }
     let mut basin = Basin { n, m, ..Basin::default() };
@@ -51,7 +55,7 @@ fn read(bytes: &[u8]) -> Result<Basin, (u64, u64)> {
 fn sub_basin(bytes: &[u8], at: usize, m: u64) -> Result<Record, (u64, u64)> {
     let words: [u64; WORDS] = std::array::from_fn(|place| word(bytes, at + place));
     for place in 0..WORDS {
-        let (least, greatest) = range(&words, place, m, GREATEST_START);
+        let (least, greatest) = range(&words, place, m, IN_FILE);
         if words[place] < least || words[place] > greatest {
             return Err((4, (at + place) as u64));
         }
@@ -118,6 +122,9 @@ mod tests {
         assert_eq!(told(&bytes(&[33, 0])), (2, 0));
         assert_eq!(told(&bytes(&[32, 32])), (2, 1));
         assert_eq!(told(&bytes(&[1, 0])), (3, 0));
+        // A sub-basin without its snow words.
+        let bare: Vec<u64> = [1, 0].into_iter().chain(CASE_A[..23].iter().copied()).collect();
+        assert_eq!(told(&bytes(&bare)), (3, 0));
         let mut long = bytes(&words());
         long.push(0);
         assert_eq!(told(&long), (3, 0));
@@ -137,11 +144,19 @@ mod tests {
             assert_eq!(at(place, value), (4, place as u64));
         }
         assert_eq!(at(12, 65_536), (4, 13));
-        assert_eq!(at(25, 0), (4, 25));
-        for (place, value) in [(48, 65_537), (49, 55_537), (50, 1), (50, 3), (52, 1), (53, 2)] {
+        assert_eq!(at(28, 0), (4, 28));
+        for (place, value) in [(54, 65_537), (55, 55_537), (56, 1), (56, 3), (58, 1), (59, 2)] {
             assert_eq!(at(place, value), (4, place as u64));
         }
-        assert_eq!(at(51, 0), (4, 52));
-        assert_eq!(at(49, 4_294_967_295), (4, 49));
+        assert_eq!(at(57, 0), (4, 58));
+        assert_eq!(at(55, 4_294_967_295), (4, 55));
+        // F, threshold and SN of both sub-basins.
+        for (place, greatest) in [(25, 20_000), (26, 10_000), (27, 3_000_000)] {
+            for place in [place, place + 26] {
+                assert_eq!(at(place, greatest), (0, 0));
+                assert_eq!(at(place, greatest + 1), (4, place as u64));
+                assert_eq!(at(place, 4_294_967_295), (4, place as u64));
+            }
+        }
     }
 }

@@ -9,7 +9,7 @@ use std::io::{self, ErrorKind, Read, Write};
 use std::path::Path;
 
 /// Bytes of a forcing line.
-const LINE: usize = 12;
+pub const LINE: usize = 16;
 /// Steps that are read and printed at a time.
 pub const STEPS: usize = 64;
 
@@ -116,15 +116,15 @@ fn read_full(input: &mut impl Read, buffer: &mut [u8]) -> (usize, Option<io::Err
     (got, None)
 }
 
-/// A line: kind, rain bits, pan bits.
-fn line(bytes: &[u8; LINE]) -> Line {
+/// A line: kind, rain bits, pan bits, temperature bits.
+pub fn line(bytes: &[u8; LINE]) -> Line {
     let number = |place| f32::from_bits(word(bytes, place) as u32);
     let rain = match word(bytes, 0) {
         1 => Reading::Measured(number(1)),
         2 => Reading::Estimated(number(1)),
         _ => Reading::Missing,
     };
-    Line { rain, pan: number(2) }
+    Line { rain, pan: number(2), temperature: number(3) }
 }
 
 /// The text of an accepted step.
@@ -154,7 +154,7 @@ fn put_number(number: u64, text: &mut Vec<u8>) {
 #[cfg(test)]
 mod tests {
     use super::*;
-    use crate::files::{bytes, case_a, line, ESTIMATED};
+    use crate::files::{bytes, case_a, case_b, line, ESTIMATED, MEASURED};
 
     fn printed(basin: &[u8], forcing: &[u8]) -> String {
         let mut out = Vec::new();
@@ -167,6 +167,27 @@ mod tests {
         let files = case_a();
         let expected = "1 ok 135000 0 22678 112322 0\n2 refused 6 1\n3 ok 0 10000 2430 99892 0\n";
         assert_eq!(printed(&files.basin, &files.forcing), expected);
+    }
+
+    #[test]
+    fn case_b_prints() {
+        let files = case_b();
+        let expected = "1 ok 368500 92090 0 960910 0\n2 refused 6 2\n\
+                        3 ok 984500 130397 955 1814058 1\n4 ok 75750 15347 104119 1770342 1\n";
+        assert_eq!(printed(&files.basin, &files.forcing), expected);
+    }
+
+    /// A line's fourth word. The snow of the third step melts in the fifth.
+    #[test]
+    fn temperatures_are_read() {
+        let mut basin = case_a().basin;
+        // F 10,000, threshold 500.
+        basin[4 * 25..4 * 27].copy_from_slice(&bytes([10_000, 500]));
+        let steps = [0.5, 60.062_5, 0.499, f32::NAN, 1.5];
+        let steps = bytes(steps.into_iter().flat_map(|degrees| line(MEASURED, 1.0, 0.5, degrees)));
+        let expected = "1 ok 1000 500 0 500 0\n2 refused 14 1\n3 ok 1000 500 0 1000 0\n\
+                        4 refused 14 1\n5 ok 1000 500 0 1500 0\n";
+        assert_eq!(printed(&basin, &steps), expected);
     }
 
     /// Hands out its bytes a few at a time, and then fails or ends.
@@ -187,7 +208,7 @@ mod tests {
         let basin = case_a().basin;
         for count in [STEPS - 1, STEPS, STEPS + 1, 3 * STEPS] {
             for tail in [0, 5] {
-                let mut steps = bytes((0..count).flat_map(|_| line(ESTIMATED, 1.0, 0.0)));
+                let mut steps = bytes((0..count).flat_map(|_| line(ESTIMATED, 1.0, 0.0, 0.0)));
                 steps.resize(steps.len() + tail, 1);
                 let printed = printed(&basin, &steps);
                 let lines: Vec<&str> = printed.lines().collect();
@@ -216,14 +237,14 @@ mod tests {
         let basin = case_a().basin;
         let ended = |basin: &[u8], forcing: &[u8]| run(basin, forcing, &mut Vec::new()).unwrap();
         assert_eq!(ended(&basin, &case_a().forcing), Ended::ALL);
-        assert_eq!(ended(&basin, &[1; 11]).status, 1);
-        assert_eq!(ended(&basin[..96], &[]).status, 1);
+        assert_eq!(ended(&basin, &[1; 15]).status, 1);
+        assert_eq!(ended(&basin[..108], &[]).status, 1);
     }
 
     #[test]
     fn a_read_that_fails() {
         let basin = case_a().basin;
-        let mut steps = bytes(line(ESTIMATED, 1.0, 0.0));
+        let mut steps = bytes(line(ESTIMATED, 1.0, 0.0, 0.0));
         steps.push(0);
         let mut out = Vec::new();
         let ended = run(&basin, Trickle(&steps, Some(ErrorKind::Other)), &mut out).unwrap();
@@ -237,11 +258,11 @@ mod tests {
     fn ends_of_the_input() {
         let basin = case_a().basin;
         assert_eq!(printed(&basin, &[]), "");
-        assert_eq!(printed(&basin, &[1; 11]), "short 11\n");
-        let mut steps = bytes(line(ESTIMATED, 1.0, 0.0));
+        assert_eq!(printed(&basin, &[1; 15]), "short 15\n");
+        let mut steps = bytes(line(ESTIMATED, 1.0, 0.0, 0.0));
         steps.push(0);
         assert_eq!(printed(&basin, &steps), "1 ok 1000 0 0 1000 1\nshort 1\n");
         assert_eq!(printed(&[], &steps), "load 1 0\n");
-        assert_eq!(printed(&basin[..96], &steps), "load 3 0\n");
+        assert_eq!(printed(&basin[..108], &steps), "load 3 0\n");
     }
 }

@@ -38,9 +38,11 @@ impl Record {
     }
 }
 
+/// At the snow threshold, where no snow falls and none melts.
 fn yields(record: &Record, pan: u64) -> Yields {
     std::array::from_fn(|rain| {
-        let flows = advance(&mut record.clone(), 1_000 * rain as u64, pan);
+        let at = record.threshold as i64;
+        let flows = advance(&mut record.clone(), 1_000 * rain as u64, pan, at);
         flows.rb + flows.r
     })
 }
@@ -79,6 +81,26 @@ mod tests {
         basin.subs[1].k = 131_072;
         let yields = basin.yields(2, 100.0).unwrap();
         assert_eq!(yields.iter().position(|&depth| depth > 0), Some(201));
+    }
+
+    /// At the threshold the snow words make no difference, and the record stays as it was.
+    #[test]
+    fn snow_is_kept_out() {
+        let bare = dipping(1).subs[0];
+        for (f, threshold, sn) in
+            [(20_000, 0, 1 << 40), (20_000, 10_000, 3_000_000), (1, 1, 1), (0, 750, 0)]
+        {
+            let mut basin = dipping(1);
+            basin.subs[0] = Record { f, threshold, sn, ..bare };
+            for pan in [0, 40_500] {
+                assert_eq!(basin.subs[0].yields(pan), bare.yields(pan));
+            }
+            assert_eq!(basin.yields(1, 40.5), dipping(1).yields(1, 40.5));
+        }
+        let beyond = [(20_001, 0, 0), (0, 10_001, 0), (0, 0, (1 << 40) + 1)];
+        for (f, threshold, sn) in beyond {
+            assert_eq!(Record { f, threshold, sn, ..bare }.yields(0), Err(10));
+        }
     }
 
     #[test]

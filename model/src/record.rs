@@ -2,17 +2,29 @@
 
 use crate::curve::WHOLE;
 
-pub const WORDS: usize = 23;
+pub const WORDS: usize = 26;
 /// The most amounts in waiting.
 pub const WAITING: usize = 15;
 
 /// Greatest VI and VG of a record, µm.
 pub const GREATEST_WAITING_DEPTH: u64 = 1 << 33;
+/// Greatest SN of a record, µm.
+pub const GREATEST_SNOW: u64 = 1 << 40;
 /// Greatest waiting amount and greatest CS store, m³.
 pub const GREATEST_WAITING_AMOUNT: u64 = 1 << 50;
 pub const GREATEST_CHANNEL: u64 = 1 << 56;
 
-/// A sub-basin's record: its 23 words, the lag line and the CS store.
+/// The greatest VI and VG and the greatest SN, µm.
+#[derive(Clone, Copy, Debug)]
+pub struct Most {
+    pub waiting: u64,
+    pub snow: u64,
+}
+
+/// Those of a basin handed in.
+pub const HANDED_IN: Most = Most { waiting: GREATEST_WAITING_DEPTH, snow: GREATEST_SNOW };
+
+/// A sub-basin's record: its 26 words, the lag line and the CS store.
 #[derive(Clone, Copy, Debug, Default, PartialEq, Eq)]
 pub struct Record {
     pub area: u64,
@@ -38,6 +50,12 @@ pub struct Record {
     pub g: u64,
     pub vi: u64,
     pub vg: u64,
+    /// Melt factor, µm a degree.
+    pub f: u64,
+    /// Snow threshold, thousandths of a degree.
+    pub threshold: u64,
+    /// Snow, µm of water.
+    pub sn: u64,
     /// The last amount to enter stands first; the first L are in use.
     pub waiting: [u64; WAITING],
     /// Content of the CS store.
@@ -53,11 +71,11 @@ impl Record {
     pub fn of_words(words: &[u64; WORDS]) -> Record {
         let [
             area, k, um, lm, dm, c, bn, im, sm, xn, ki, kg, ci, cg, cs, l, reach,
-            wu, wl, wd, g, vi, vg,
+            wu, wl, wd, g, vi, vg, f, threshold, sn,
         ] = *words;
         Record {
             area, k, um, lm, dm, c, bn, im, sm, xn, ki, kg, ci, cg, cs, l, reach,
-            wu, wl, wd, g, vi, vg,
+            wu, wl, wd, g, vi, vg, f, threshold, sn,
             waiting: [0; WAITING],
             channel: 0,
         }
@@ -68,7 +86,7 @@ impl Record {
         let s = self;
         [
             s.area, s.k, s.um, s.lm, s.dm, s.c, s.bn, s.im, s.sm, s.xn, s.ki, s.kg, s.ci, s.cg,
-            s.cs, s.l, s.reach, s.wu, s.wl, s.wd, s.g, s.vi, s.vg,
+            s.cs, s.l, s.reach, s.wu, s.wl, s.wd, s.g, s.vi, s.vg, s.f, s.threshold, s.sn,
         ]
     }
 
@@ -76,7 +94,7 @@ impl Record {
     pub fn inside(&self) -> bool {
         let words = self.words();
         let word_inside = |place| {
-            let (least, greatest) = range(&words, place, 0, GREATEST_WAITING_DEPTH);
+            let (least, greatest) = range(&words, place, 0, HANDED_IN);
             least <= words[place] && words[place] <= greatest
         };
         (0..WORDS).all(|place| place == REACH || word_inside(place))
@@ -93,8 +111,8 @@ impl Record {
 }
 
 /// The least and greatest of the word at a place of a sub-basin's words, with M reaches and the
-/// greatest VI and VG.
-pub fn range(words: &[u64; WORDS], place: usize, m: u64, waiting_depth: u64) -> (u64, u64) {
+/// greatest VI, VG and SN.
+pub fn range(words: &[u64; WORDS], place: usize, m: u64, most: Most) -> (u64, u64) {
     let [_, _, um, lm, dm, _, _, _, sm, _, ki, ..] = *words;
     match place {
         0 => (1, 5_000),
@@ -116,8 +134,11 @@ pub fn range(words: &[u64; WORDS], place: usize, m: u64, waiting_depth: u64) -> 
         18 => (0, lm),
         19 => (0, dm),
         20 => (0, sm),
-        21 | 22 => (0, waiting_depth),
-        _ => unreachable!("a sub-basin has 23 words"),
+        21 | 22 => (0, most.waiting),
+        23 => (0, 20_000),
+        24 => (0, 10_000),
+        25 => (0, most.snow),
+        _ => unreachable!("a sub-basin has 26 words"),
     }
 }
 
@@ -125,5 +146,5 @@ pub fn range(words: &[u64; WORDS], place: usize, m: u64, waiting_depth: u64) -> 
 #[rustfmt::skip]
 pub const CASE_A: [u64; WORDS] = [
     1, 65_536, 20_000, 60_000, 40_000, 8_192, 24, 0, 20_000, 24, 16_384, 16_384, 32_768, 32_768,
-    0, 0, 0, 0, 0, 0, 0, 0, 0,
+    0, 0, 0, 0, 0, 0, 0, 0, 0, 0, 0, 0,
 ];

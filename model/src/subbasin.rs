@@ -1,5 +1,7 @@
 //! One sub-basin, one step. Its parts are inlined, so that the flows of a step stay in registers.
 
+mod snow;
+
 use crate::curve::{held_of, ordinate_of, WHOLE};
 use crate::record::{Record, WAITING};
 use crate::store::Store;
@@ -7,6 +9,9 @@ use crate::store::Store;
 /// Greatest depths of a sub-basin call, µm.
 pub const GREATEST_RAIN: u64 = 1_000_000;
 pub const GREATEST_PAN: u64 = 100_000;
+/// Its temperatures, thousandths of a degree.
+pub const LEAST_TEMPERATURE: i64 = -80_000;
+pub const GREATEST_TEMPERATURE: i64 = 60_000;
 
 /// Greatest depth of a slice of PE, µm.
 const SLICE: u64 = 5_000;
@@ -34,28 +39,33 @@ pub struct Stepped {
     pub flows: Flows,
 }
 
-/// The sub-basin call, with rain and pan depths in µm.
-pub fn step(mut record: Record, rain: u64, pan: u64) -> Stepped {
-    if rain > GREATEST_RAIN || pan > GREATEST_PAN || !record.inside() {
+/// The sub-basin call, with rain and pan depths in µm and the temperature in thousandths of a degree.
+pub fn step(mut record: Record, rain: u64, pan: u64, temperature: i64) -> Stepped {
+    if rain > GREATEST_RAIN
+        || pan > GREATEST_PAN
+        || !(LEAST_TEMPERATURE..=GREATEST_TEMPERATURE).contains(&temperature)
+        || !record.inside()
+    {
         return Stepped { number: 10, place: 0, record, flows: Flows::default() };
     }
-    let flows = advance(&mut record, rain, pan);
+    let flows = advance(&mut record, rain, pan, temperature);
     Stepped { number: 0, place: 0, record, flows }
 }
 
 /// The step of a record inside its limits, in place.
 #[inline(always)]
-pub fn advance(s: &mut Record, rain: u64, pan: u64) -> Flows {
-    advance_by(SLICE, s, rain, pan)
+pub fn advance(s: &mut Record, rain: u64, pan: u64, temperature: i64) -> Flows {
+    advance_by(SLICE, s, rain, pan, temperature)
 }
 
 /// The step with slices of at most the given depth, µm. One slice of any size is the first delivery's
 /// rule, which tests compare with.
 #[inline(always)]
-fn advance_by(most: u64, s: &mut Record, rain: u64, pan: u64) -> Flows {
+fn advance_by(most: u64, s: &mut Record, rain: u64, pan: u64, temperature: i64) -> Flows {
     let mut f = Flows::default();
+    let p = snow::freeze_or_melt(s, rain, temperature);
     let ep = s.k * pan / WHOLE;
-    let pe = evaporate(s, &mut f, rain, ep);
+    let pe = evaporate(s, &mut f, p, ep);
     if pe > 0 {
         take_slices(most, s, &mut f, pe);
     }
@@ -189,7 +199,7 @@ mod tests {
     /// The model's own figures: the text's are those of one slice.
     #[test]
     fn case_a_first_step() {
-        let given = step(Record::of_words(&CASE_A), 135_000, 0);
+        let given = step(Record::of_words(&CASE_A), 135_000, 0, 0);
         let after = given.record;
         assert_eq!((given.number, given.place), (0, 0));
         assert_eq!((after.wu, after.wl, after.wd), (20_000, 60_000, 25_030));
@@ -216,7 +226,7 @@ mod tests {
         let a = Record::of_words(&CASE_A);
         let mut late = Record { l: 2, ..a };
         late.waiting[1] = GREATEST_WAITING_AMOUNT;
-        assert_eq!(step(late, 0, 0).number, 0);
+        assert_eq!(step(late, 0, 0, 0).number, 0);
         let mut unused = late;
         unused.waiting[2] = 1;
         let mut above = late;
@@ -227,16 +237,25 @@ mod tests {
             Record { kg: 49_153, ..a },
             Record { vi: GREATEST_WAITING_DEPTH + 1, ..a },
             Record { channel: GREATEST_CHANNEL + 1, ..a },
+            Record { f: 20_001, ..a },
+            Record { threshold: 10_001, ..a },
+            Record { sn: GREATEST_SNOW + 1, ..a },
             unused,
             above,
         ];
         for record in refused {
             let expected = Stepped { number: 10, place: 0, record, flows: Flows::default() };
-            assert_eq!(step(record, 0, 0), expected);
+            assert_eq!(step(record, 0, 0, 0), expected);
         }
-        assert_eq!(step(a, 1_000_001, 0).number, 10);
-        assert_eq!(step(a, 0, 100_001).number, 10);
-        let most = Record { reach: u64::MAX, vi: GREATEST_WAITING_DEPTH, ..a };
-        assert_eq!(step(most, 1_000_000, 100_000).number, 0);
+        assert_eq!(step(a, 1_000_001, 0, 0).number, 10);
+        assert_eq!(step(a, 0, 100_001, 0).number, 10);
+        for temperature in [-80_001, 60_001, i64::MIN, i64::MAX] {
+            let expected = Stepped { number: 10, place: 0, record: a, flows: Flows::default() };
+            assert_eq!(step(a, 0, 0, temperature), expected);
+        }
+        let most = Record { reach: u64::MAX, vi: GREATEST_WAITING_DEPTH, sn: GREATEST_SNOW, ..a };
+        for temperature in [-80_000, 60_000] {
+            assert_eq!(step(most, 1_000_000, 100_000, temperature).number, 0);
+        }
     }
 }

@@ -32,7 +32,7 @@ impl Basin {
             return ran;
         }
         for step in 0..lines.len() / n {
-            let mut own = [Line { rain: Reading::Missing, pan: 0.0 }; MOST_LINES];
+            let mut own = [Line { rain: Reading::Missing, pan: 0.0, temperature: 0.0 }; MOST_LINES];
             for k in 0..n {
                 own[k] = lines[step * n + k];
             }
@@ -77,7 +77,7 @@ impl Ran {
 
 /// A step's lines with the places past them, which no step looks at.
 pub fn listed(lines: &[Line]) -> [Line; MOST_LINES] {
-    let mut all = [Line { rain: Reading::Missing, pan: 0.0 }; MOST_LINES];
+    let mut all = [Line { rain: Reading::Missing, pan: 0.0, temperature: 0.0 }; MOST_LINES];
     all[..lines.len()].copy_from_slice(lines);
     all
 }
@@ -98,11 +98,12 @@ mod tests {
     use crate::basin::Reach;
     use crate::record::{Record, CASE_A, GREATEST_CHANNEL, GREATEST_WAITING_AMOUNT};
 
-    const WET: Line = Line { rain: Reading::Measured(31.4), pan: 1.5 };
-    const GUESSED: Line = Line { rain: Reading::Estimated(2.0), pan: 4.25 };
-    const MISSING: Line = Line { rain: Reading::Missing, pan: 0.0 };
-    const BROKEN: Line = Line { rain: Reading::Measured(f32::NAN), pan: 0.0 };
-    const TOO_DRY: Line = Line { rain: Reading::Measured(1.0), pan: 100.5 };
+    const WET: Line = Line { rain: Reading::Measured(31.4), pan: 1.5, temperature: 0.0 };
+    const GUESSED: Line = Line { rain: Reading::Estimated(2.0), pan: 4.25, temperature: 0.0 };
+    const MISSING: Line = Line { rain: Reading::Missing, pan: 0.0, temperature: 0.0 };
+    const BROKEN: Line = Line { rain: Reading::Measured(f32::NAN), pan: 0.0, temperature: 0.0 };
+    const TOO_DRY: Line = Line { rain: Reading::Measured(1.0), pan: 100.5, temperature: 0.0 };
+    const TOO_HOT: Line = Line { temperature: 60.5, ..WET };
 
     /// Sub-basins like case A's, all on one reach.
     fn basin(n: usize) -> Basin {
@@ -123,7 +124,7 @@ mod tests {
     fn case_a_stops_at_its_second_step() {
         let mut basin = Basin { n: 1, ..Basin::default() };
         basin.subs[0] = Record::of_words(&CASE_A);
-        let measured = |rain, pan| Line { rain: Reading::Measured(rain), pan };
+        let measured = |rain, pan| Line { rain: Reading::Measured(rain), pan, temperature: 0.0 };
         let ran = basin.week(&[measured(135.0, 0.0), MISSING, measured(0.0, 10.0)]);
         assert_eq!((ran.number, ran.place, ran.count), (6, 1, 1));
         let r = ran.report;
@@ -199,9 +200,13 @@ mod tests {
         let basin = basin(3);
         for refused_at in 0..5 {
             let before = basin.week(&vec![WET; 3 * refused_at]);
-            for (place, bad, number) in
-                [(1, MISSING, 6), (2, BROKEN, 12), (3, TOO_DRY, 8), (3, MISSING, 6)]
-            {
+            for (place, bad, number) in [
+                (1, MISSING, 6),
+                (2, BROKEN, 12),
+                (3, TOO_DRY, 8),
+                (3, MISSING, 6),
+                (1, TOO_HOT, 14),
+            ] {
                 let mut lines = [WET; 15];
                 lines[14] = MISSING;
                 lines[3 * refused_at + place - 1] = bad;
@@ -223,5 +228,27 @@ mod tests {
         assert_eq!((one.number, one.count, one.basin.inside()), (0, 1, false));
         assert_eq!(basin.week(&[WET; 3]), Ran { number: 9, ..one });
         assert_eq!(one.basin.week(&[]), untaken(one.basin, 9));
+    }
+
+    /// Snow falls for a week and melts for another: the sums have the gauge's rain, and the water is kept.
+    #[test]
+    fn a_week_of_snow() {
+        let mut basin = basin(2);
+        for sub in &mut basin.subs[..2] {
+            (sub.f, sub.threshold, sub.sn) = (4_500, 500, 10_000);
+        }
+        let snowing = Line { temperature: 0.499, ..WET };
+        let melting = Line { temperature: 10.5, ..GUESSED };
+        let [before, cold] = [basin.content(), 14 * 31_400];
+        let frozen = basin.week(&[snowing; 14]);
+        assert_eq!((frozen.number, frozen.count, frozen.report.rain), (0, 7, cold));
+        let [first, second] = [0, 1].map(|at| frozen.basin.subs[at].sn);
+        assert_eq!((first, second), (10_000 + 7 * 31_400, 10_000 + 7 * 31_400));
+        let thawed = frozen.basin.week(&[melting; 14]);
+        assert_eq!((thawed.number, thawed.count, thawed.report.rain), (0, 7, 14 * 2_000));
+        assert_eq!((thawed.basin.subs[0].sn, thawed.basin.subs[1].sn), (0, 0));
+        let rain = cold + 14 * 2_000;
+        let gone = [frozen, thawed].map(|ran| ran.report.evapotranspiration + ran.report.outlet);
+        assert_eq!(before + rain, gone[0] + gone[1] + thawed.basin.content());
     }
 }

@@ -8,7 +8,7 @@ use std::io;
 #[rustfmt::skip]
 const SUB_BASIN: [&str; WORDS] = [
     "area", "K", "UM", "LM", "DM", "C", "BN", "IM", "SM", "XN", "KI", "KG", "CI", "CG", "CS", "L", "REACH",
-    "WU", "WL", "WD", "G", "VI", "VG",
+    "WU", "WL", "WD", "G", "VI", "VG", "F", "threshold", "SN",
 ];
 const REACH: [&str; 3] = ["c0", "c1", "next"];
 
@@ -19,7 +19,7 @@ pub fn refused_load(basin: &[u8], number: u64, place: u64) -> String {
     }
     let (n, m) = (word(basin, 0), word(basin, 1));
     if number == 3 {
-        let bytes = 4 * (2 + 23 * n + 3 * m);
+        let bytes = 4 * (2 + 26 * n + 3 * m);
         return format!(
             "basin.bin: does not have the {bytes} bytes that N = {n} and M = {m} ask for"
         );
@@ -72,15 +72,18 @@ mod tests {
         let basin = bytes([2, 3]);
         let said = |place| refused_load(&basin, 4, place);
         assert_eq!(said(5), "basin.bin: word 5 (LM of sub-basin 1) is outside its range");
-        assert_eq!(said(47), "basin.bin: word 47 (VG of sub-basin 2) is outside its range");
-        assert_eq!(said(48), "basin.bin: word 48 (c0 of reach 1) is outside its range");
-        assert_eq!(said(56), "basin.bin: word 56 (next of reach 3) is outside its range");
+        assert_eq!(said(25), "basin.bin: word 25 (F of sub-basin 1) is outside its range");
+        assert_eq!(said(50), "basin.bin: word 50 (VG of sub-basin 2) is outside its range");
+        assert_eq!(said(52), "basin.bin: word 52 (threshold of sub-basin 2) is outside its range");
+        assert_eq!(said(53), "basin.bin: word 53 (SN of sub-basin 2) is outside its range");
+        assert_eq!(said(54), "basin.bin: word 54 (c0 of reach 1) is outside its range");
+        assert_eq!(said(62), "basin.bin: word 62 (next of reach 3) is outside its range");
         assert_eq!(refused_load(&basin, 2, 1), "basin.bin: word 1 (M) is outside its range");
     }
 
     #[test]
     fn lengths() {
-        let said = "basin.bin: does not have the 100 bytes that N = 1 and M = 0 ask for";
+        let said = "basin.bin: does not have the 112 bytes that N = 1 and M = 0 ask for";
         assert_eq!(refused_load(&bytes([1, 0]), 3, 0), said);
     }
 

@@ -4,15 +4,16 @@ use super::draft::{numbers, RECORD};
 use super::draw::{Checksum, Draw};
 use super::places::{brimming, damaged, edges, reach_place, with};
 use super::plans::{loaded, ordinary, CHOICES, SHAPES};
-use super::weather::{bad, drawn_lines};
+use super::weather::{bad, drawn_lines, frost, lines_in, ordinary as course, CLIMATES, FAULTS};
 use crate::basin::{Advanced, Basin};
 use crate::forcing::{Line, Reading, MOST_LINES};
-use crate::record::CASE_A;
+use crate::record::{CASE_A, GREATEST_SNOW};
 use std::io::{self, Write};
 
 pub fn print(out: &mut impl Write) -> io::Result<()> {
     case_a_lines(out)?;
     limits(out)?;
+    snow(out)?;
     let mut draw = Draw(1);
     let mut k = 0;
     for (n, m) in [(32, 31), (7, 5), (1, 0), (2, 1), (32, 0), (1, 31)] {
@@ -42,7 +43,7 @@ pub fn print(out: &mut impl Write) -> io::Result<()> {
 }
 
 /// A step as the program prints it.
-fn print_step(number: usize, given: &Advanced, out: &mut impl Write) -> io::Result<()> {
+fn print_step(number: u64, given: &Advanced, out: &mut impl Write) -> io::Result<()> {
     if given.number > 0 {
         return writeln!(out, "{number} refused {} {}", given.number, given.place);
     }
@@ -57,7 +58,7 @@ fn case_a_lines(out: &mut impl Write) -> io::Result<()> {
     let steps =
         [(Reading::Measured(135.0), 0.0), (Reading::Missing, 0.0), (Reading::Measured(0.0), 10.0)];
     for (number, (rain, pan)) in (1..).zip(steps) {
-        let given = basin.step(&[Line { rain, pan }; MOST_LINES], 1);
+        let given = basin.step(&[Line { rain, pan, temperature: 0.0 }; MOST_LINES], 1);
         print_step(number, &given, out)?;
         basin = given.basin;
     }
@@ -66,21 +67,20 @@ fn case_a_lines(out: &mut impl Write) -> io::Result<()> {
 
 /// Every number of an answer.
 fn fold(h: &mut Checksum, given: &Advanced) {
-    let r = given.report;
-    let report = [r.rain, r.evapotranspiration, r.outlet, r.content, r.estimated];
-    h.fold(&[given.number, given.place]);
-    h.fold(&report);
+    fold_report(h, given);
     h.fold(&numbers(&given.basin));
+}
+
+/// All but the basin.
+fn fold_report(h: &mut Checksum, given: &Advanced) {
+    let r = given.report;
+    h.fold(&[given.number, given.place]);
+    h.fold(&[r.rain, r.evapotranspiration, r.outlet, r.content, r.estimated]);
 }
 
 /// Runs a series and gives its checksum. Every 16th step is astray, the series going on from the
 /// basin before it, and every 72nd is printed.
-fn series(
-    basin: &mut Basin,
-    draw: &mut Draw,
-    count: usize,
-    out: &mut impl Write,
-) -> io::Result<u64> {
+fn series(basin: &mut Basin, draw: &mut Draw, count: u64, out: &mut impl Write) -> io::Result<u64> {
     let mut h = Checksum::default();
     for i in 0..count {
         let lines = drawn_lines(i, draw);
@@ -101,14 +101,14 @@ fn series(
 /// A step with a wrong count, bad lines or a number of the basin outside its range.
 fn astray(basin: &Basin, lines: [Line; MOST_LINES], draw: &mut Draw) -> Advanced {
     let n = basin.n;
-    let fault = draw.0 % 24;
+    let fault = draw.0 % 28;
     let (x, y) = (draw.next(), draw.next());
     let wrong = |k: u64| [n + 1, n - 1, 0, 33, u64::MAX][k as usize];
     match fault {
         0..=4 => basin.step(&lines, wrong(fault)),
-        5..=13 => basin.step(&with_bad(lines, n, fault - 5, x, y), n),
-        14 => damaged(basin, x, y).step(&lines, wrong(y % 5)),
-        15 => damaged(basin, x, y).step(&with_bad(lines, n, 0, x, y), n),
+        5..=17 => basin.step(&with_bad(lines, n, fault - 5, x, y), n),
+        18 => damaged(basin, x, y).step(&lines, wrong(y % 5)),
+        19 => damaged(basin, x, y).step(&with_bad(lines, n, 0, x, y), n),
         _ => damaged(basin, x, y).step(&lines, n),
     }
 }
@@ -124,8 +124,55 @@ fn with_bad(
     let place = |x: u64| (x % (n + 1)) as usize % MOST_LINES;
     let line = lines[place(x)];
     lines[place(x)] = bad(line, fault);
-    lines[place(y)] = bad(line, y / 64 % 9);
+    lines[place(y)] = bad(line, y / 64 % FAULTS);
     lines
+}
+
+/// Winters that melt through the reaches, then decades of frost from the file's snow and from near to the mark.
+fn snow(out: &mut impl Write) -> io::Result<()> {
+    let mut draw = Draw(1);
+    for (at, n, m) in [(0, 3, 2), (2, 7, 5)] {
+        let (name, shape) = SHAPES[at];
+        let mut basin = loaded(ordinary, shape, n, m, &mut draw);
+        let h = year(&mut basin, &mut draw, out)?;
+        writeln!(out, "year {name} {n} {m} {h}")?;
+    }
+    let (_, chain) = SHAPES[0];
+    decades("from the file", loaded(ordinary, chain, 3, 2, &mut draw), &mut draw, out)?;
+    let mut high = loaded(ordinary, chain, 3, 2, &mut draw);
+    high.subs[..3].iter_mut().for_each(|s| s.sn = GREATEST_SNOW - 50_000_000);
+    decades("to the mark", high, &mut draw, out)
+}
+
+/// The ordinary course from frost to thaw, six days for each of its steps; every twelfth is printed.
+fn year(basin: &mut Basin, draw: &mut Draw, out: &mut impl Write) -> io::Result<u64> {
+    let mut h = Checksum::default();
+    for day in 0..192 {
+        let given = basin.step(&lines_in(course, day / 6, draw), basin.n);
+        if day % 12 == 0 {
+            print_step(day, &given, out)?;
+        }
+        fold(&mut h, &given);
+        *basin = given.basin;
+    }
+    Ok(h.0)
+}
+
+/// 11,000 days of frost, of which every thousandth and the last are printed, and ten hot ones.
+fn decades(name: &str, mut basin: Basin, draw: &mut Draw, out: &mut impl Write) -> io::Result<()> {
+    let (_, hot) = CLIMATES[1];
+    let mut h = Checksum::default();
+    for day in 0..11_010 {
+        let climate = if day < 11_000 { frost } else { hot };
+        let given = basin.step(&lines_in(climate, day, draw), basin.n);
+        if day % 1_000 == 0 || day >= 10_999 {
+            print_step(day, &given, out)?;
+        }
+        fold_report(&mut h, &given);
+        basin = given.basin;
+    }
+    h.fold(&numbers(&basin));
+    writeln!(out, "decades {name} {}", h.0)
 }
 
 /// Every number of a basin at the edges of its range, after 24 steps.
@@ -138,7 +185,7 @@ fn limits(out: &mut impl Write) -> io::Result<()> {
     let all = numbers(&basin);
     for place in 0..all.len() {
         let mut refusals = Vec::new();
-        for (which, number) in edges(&basin, place).into_iter().enumerate() {
+        for (which, number) in (0..).zip(edges(&basin, place)) {
             let lines = drawn_lines(which * 32, &mut draw);
             let given = with(all.clone(), place, number).step(&lines, basin.n);
             fold(&mut h, &given);

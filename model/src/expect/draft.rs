@@ -2,11 +2,11 @@
 
 use super::draw::Draw;
 use crate::basin::{Basin, Reach};
-use crate::file::{load, word, Loaded, GREATEST_START};
+use crate::file::{load, word, Loaded, IN_FILE};
 use crate::record::{range, Record, WAITING, WORDS};
 
 /// The longest file has a word less.
-const BUFFER: usize = 4 * 832;
+const BUFFER: usize = 4 * 928;
 
 /// A file: the first bytes of a buffer.
 #[derive(Clone, Copy)]
@@ -72,7 +72,7 @@ impl File {
             Spot::Count => [(1, 32), (0, 31)][at],
             Spot::Sub(_, place) => {
                 let words = std::array::from_fn(|i| self.word(at - place + i));
-                range(&words, place, m, GREATEST_START)
+                range(&words, place, m, IN_FILE)
             }
             Spot::Reach(_, 2) => (0, m),
             Spot::Reach(_, place) => share_range(place, self.word(at - place)),

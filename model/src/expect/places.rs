@@ -8,6 +8,7 @@ use crate::record::*;
 pub fn brimming(mut basin: Basin, recession: Option<u64>) -> Basin {
     for s in &mut basin.subs {
         (s.vi, s.vg) = (GREATEST_WAITING_DEPTH, GREATEST_WAITING_DEPTH);
+        s.sn = GREATEST_SNOW;
         s.waiting = [GREATEST_WAITING_AMOUNT; WAITING];
         s.channel = GREATEST_CHANNEL;
         [s.ci, s.cg, s.cs] = recession.map_or([s.ci, s.cg, s.cs], |share| [share; 3]);
@@ -71,7 +72,7 @@ fn range_of(basin: &Basin, place: usize) -> (u64, u64) {
 fn record_range(record: &Record, place: usize, m: u64) -> (u64, u64) {
     const CHANNEL: usize = WORDS + WAITING;
     match place {
-        0..WORDS => range(&record.words(), place, m, GREATEST_WAITING_DEPTH),
+        0..WORDS => range(&record.words(), place, m, HANDED_IN),
         CHANNEL => (0, GREATEST_CHANNEL),
         _ if ((place - WORDS) as u64) < record.l => (0, GREATEST_WAITING_AMOUNT),
         _ => (0, 0),

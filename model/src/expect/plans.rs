@@ -5,7 +5,7 @@ use super::draw::Draw;
 use crate::basin::Basin;
 use crate::record::WORDS;
 
-/// A word of a sub-basin or, from place 23, of a reach: by its place, its range and two draws.
+/// A word of a sub-basin or, from place 26, of a reach: by its place, its range and two draws.
 pub type Choice = fn(usize, (u64, u64), u64, u64) -> u64;
 
 pub const CHOICES: [(&str, Choice); 5] = [
@@ -36,7 +36,10 @@ pub fn ordinary(place: usize, (_, greatest): (u64, u64), x: u64, _: u64) -> u64 
         15 => (0, 6),
         21 => (0, 20_000),
         22 => (0, 200_000),
-        23 => (2_000, 20_000),
+        23 => (2_000, 6_000),
+        24 => (0, 2_000),
+        25 => (0, 60_000),
+        26 => (2_000, 20_000),
         _ => (0, greatest),
     };
     low + x % (high - low + 1)

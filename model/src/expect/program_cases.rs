@@ -1,7 +1,8 @@
 //! `program_cases`: the program's work on damaged and missing files, and all that it says of a refused load.
 
-use super::patterns::PATTERNS;
+use super::patterns::{PATTERNS, TEMPERATURES};
 use crate::bench;
+use crate::chance::Chance;
 use crate::files::{bytes, case_a, case_b, line, Files, LineWords, ESTIMATED, MEASURED, MISSING};
 use crate::program;
 use crate::random::{self, Case, Put};
@@ -34,12 +35,18 @@ fn cases() -> Vec<Case> {
         Case { basin: Put::File(a.basin.clone()), forcing: Put::Nothing },
         Case { basin: Put::File(a.basin.clone()), forcing: Put::Folder },
         on_a(Vec::new()),
-        on_a(vec![1; 11]),
+        on_a(vec![1; 15]),
         on_a(estimated(64)),
         on_a([&estimated(65)[..], &[2; 7]].concat()),
         widest(),
         with_both(case_b()),
         on_a(patterns()),
+        case(snowy(&a.basin), temperatures()),
+        case(case_b().basin, winter()),
+        on_a(three_words(&a.forcing)),
+        on_a(three_words(&estimated(20))),
+        with(a.basin[..4 * (2 + 23)].to_vec()),
+        with(set(27, 3_000_001)),
     ]
 }
 
@@ -61,31 +68,72 @@ fn shares_above_one() -> Vec<u8> {
 
 /// Steps of one sub-basin.
 fn estimated(count: u64) -> Vec<u8> {
-    bytes((1..=count).flat_map(|step| line(ESTIMATED, step as f32 / 4.0, 1.0)))
+    bytes((1..=count).flat_map(|step| line(ESTIMATED, step as f32 / 4.0, 1.0, 0.0)))
 }
 
 /// Steps of one sub-basin: no rain reading and then each pattern as rain, with each pattern as pan.
 fn patterns() -> Vec<u8> {
     let kinds = [MEASURED, ESTIMATED].into_iter().cycle();
     let rains = [(MISSING, 0)].into_iter().chain(kinds.zip(PATTERNS));
-    bytes(rains.flat_map(|(kind, rain)| PATTERNS.map(|pan| [kind, rain, pan])).flatten())
+    bytes(rains.flat_map(|(kind, rain)| PATTERNS.map(|pan| [kind, rain, pan, 0])).flatten())
+}
+
+/// Case A's sub-basin with snow on it: F 4,500, SN 1,000,000, and a threshold of 63, which 0.0625 degrees just reach.
+fn snowy(basin: &[u8]) -> Vec<u8> {
+    [&basin[..4 * 25], &bytes([4_500, 63, 1_000_000])].concat()
+}
+
+/// Steps of one sub-basin: each pattern as temperature, with rain and pan that are good, with no rain reading and with a bad pan.
+fn temperatures() -> Vec<u8> {
+    let depths = [(MEASURED, 2.0, 1.0), (MISSING, 2.0, 1.0), (ESTIMATED, 2.0, -0.25)];
+    let patterns = || PATTERNS.into_iter().chain(TEMPERATURES);
+    let lines = depths.into_iter().flat_map(|(kind, rain, pan)| {
+        patterns().map(move |degrees| line(kind, rain, pan, f32::from_bits(degrees)))
+    });
+    bytes(lines.flatten())
+}
+
+/// A winter of 200 days on two sub-basins, of which the first is 3 degrees colder: it cools by a degree in five days, to the 90th, and then
+/// warms so. Two days are refused.
+fn winter() -> Vec<u8> {
+    let mut chance = Chance::new(21);
+    let mut lines = Vec::new();
+    for day in 0..200u64 {
+        let most = chance.of(&[0, 0, 200]);
+        for warmer in [0.0, 3.0] {
+            let kind = if chance.one_in(10) { ESTIMATED } else { MEASURED };
+            let mut tenths = |most| chance.within(0, most) as f32 / 10.0;
+            let season = day.abs_diff(90) as f32 / 5.0 - 14.0 + warmer;
+            lines.push(line(kind, tenths(most), tenths(15), season + tenths(80)));
+        }
+    }
+    lines[2 * 60 + 1][3] = (-99.9f32).to_bits();
+    lines[2 * 120][2] = f32::NAN.to_bits();
+    lines[2 * 120][3] = f32::NAN.to_bits();
+    bytes(lines.into_iter().flatten())
+}
+
+/// The lines as they were before they had a temperature.
+fn three_words(forcing: &[u8]) -> Vec<u8> {
+    forcing.chunks(program::LINE).flat_map(|line| &line[..12]).copied().collect()
 }
 
 /// 32 sub-basins and 31 reaches, 130 steps with estimated lines and refused ones, and a part step.
 fn widest() -> Case {
     let Files { basin, forcing } = bench::files(1, 32);
-    let step = 12 * 32;
-    let mut forcing = forcing[..130 * step + 383].to_vec();
+    let step = program::LINE * 32;
+    let mut forcing = forcing[..130 * step + 511].to_vec();
     let mut put = |at: usize, words: LineWords| {
-        forcing[12 * at..12 * at + 12].copy_from_slice(&bytes(words));
+        forcing[program::LINE * at..program::LINE * (at + 1)].copy_from_slice(&bytes(words));
     };
     for at in (0..130 * 32).step_by(37) {
-        put(at, line(ESTIMATED, 12.5, 2.0));
+        put(at, line(ESTIMATED, 12.5, 2.0, 0.0));
     }
-    put(40 * 32 + 31, line(MISSING, 0.0, 0.0));
-    put(63 * 32 + 8, line(MEASURED, f32::NAN, 0.0));
-    put(64 * 32, line(MEASURED, 1_000.5, 0.0));
-    put(129 * 32 + 15, line(ESTIMATED, 3.0, 100.5));
+    put(40 * 32 + 31, line(MISSING, 0.0, 0.0, 0.0));
+    put(63 * 32 + 8, line(MEASURED, f32::NAN, 0.0, 0.0));
+    put(64 * 32, line(MEASURED, 1_000.5, 0.0, 0.0));
+    put(97 * 32 + 3, line(MEASURED, 0.0, 0.0, 60.062_5));
+    put(129 * 32 + 15, line(ESTIMATED, 3.0, 100.5, f32::NAN));
     case(basin, forcing)
 }
 
@@ -123,7 +171,7 @@ fn refused_loads(out: &mut impl Write) -> io::Result<()> {
         for (number, place) in [(1, 0), (2, 0), (2, 1), (3, 0)] {
             writeln!(out, "{}", words::refused_load(&basin, number, place))?;
         }
-        for place in 2..u64::from(2 + 23 * n + 3 * m) {
+        for place in 2..u64::from(2 + 26 * n + 3 * m) {
             writeln!(out, "{}", words::refused_load(&basin, 4, place))?;
         }
     }
@@ -131,7 +179,7 @@ fn refused_loads(out: &mut impl Write) -> io::Result<()> {
 }
 
 fn shorts(out: &mut impl Write) -> io::Result<()> {
-    for (count, size, step) in [(1, 12, 1), (59, 60, 1_097), (383, 384, u64::MAX)] {
+    for (count, size, step) in [(1, 16, 1), (79, 80, 1_097), (511, 512, u64::MAX)] {
         writeln!(out, "{}", words::short(count, size, step))?;
     }
     Ok(())

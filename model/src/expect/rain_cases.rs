@@ -9,7 +9,7 @@ use super::weather::{drawn_line, drawn_lines};
 use crate::basin::Basin;
 use crate::forcing::{depth, Kind};
 use crate::rains::{Yields, RAINS};
-use crate::record::{Record, CASE_A, WAITING, WORDS};
+use crate::record::{Record, CASE_A, GREATEST_SNOW, WAITING, WORDS};
 use std::io::{self, Write};
 
 pub fn print(out: &mut impl Write) -> io::Result<()> {
@@ -18,7 +18,8 @@ pub fn print(out: &mut impl Write) -> io::Result<()> {
     refusals(out)?;
     pans(out)?;
     outside(out)?;
-    records(out)
+    records(out)?;
+    snow(out)
 }
 
 /// Number, place, whether the answer is none, and whether it has a rain, which then does.
@@ -58,10 +59,10 @@ fn dips(out: &mut impl Write) -> io::Result<()> {
     Ok(())
 }
 
-/// As loaded and after eight steps, of every size, shape and choice.
+/// As loaded and after twelve steps, of every size, shape and choice.
 fn drawn(out: &mut impl Write) -> io::Result<()> {
     let mut draw = Draw(1);
-    for steps in [0, 8] {
+    for steps in [0, 12] {
         for (n, m) in [(1, 0), (2, 1), (7, 5), (32, 31)] {
             for (shape_name, shape) in SHAPES {
                 for (choice_name, choice) in CHOICES {
@@ -76,10 +77,10 @@ fn drawn(out: &mut impl Write) -> io::Result<()> {
     Ok(())
 }
 
-/// Steps in the weather of one spell.
+/// Steps in the weather of one spell, every second of it.
 fn after(basin: Basin, steps: u64, draw: &mut Draw) -> Basin {
-    let spell = draw.0 as usize % 5 * 32;
-    (0..steps).fold(basin, |basin, _| basin.step(&drawn_lines(spell, draw), basin.n).basin)
+    let spell = draw.0 % 5 * 32;
+    (0..steps).fold(basin, |basin, k| basin.step(&drawn_lines(spell + 2 * k, draw), basin.n).basin)
 }
 
 /// A drawn sub-basin under a drawn pan: the greatest depth that a rain yields, and the answers for 0, 1, that depth and one
@@ -138,14 +139,14 @@ fn pans(out: &mut impl Write) -> io::Result<()> {
     Ok(())
 }
 
-/// Numbers below their range, at both its ends and above: N and M; AREA, WU, VG, the first amount in waiting and the channel
+/// Numbers below their range, at both its ends and above: N and M; AREA, WU, VG, SN, the first amount in waiting and the channel
 /// store of the first sub-basin, REACH of the second, AREA of the third, which is unused; next and content of the reach,
 /// content of the last, unused. Each with a good question, with a bad sub-basin number, a bad pan, and both.
 fn outside(out: &mut impl Write) -> io::Result<()> {
     let questions = [(2, 2), (3, 2), (2, 3), (2, 7), (0, 3), (33, 7)];
     let mut draw = Draw(1);
     let (_, chain) = SHAPES[0];
-    for place in [0, 1, 2, 19, 24, 25, 40, 57, 80, 1_252, 1_253, 1_373] {
+    for place in [0, 1, 2, 19, 24, 27, 28, 43, 60, 86, 1_348, 1_349, 1_469] {
         for edge in 0..4 {
             let basin = loaded(ordinary, chain, 2, 1, &mut draw);
             let changed = with(numbers(&basin), place, edges(&basin, place)[edge]);
@@ -164,7 +165,7 @@ fn records(out: &mut impl Write) -> io::Result<()> {
     let mut draw = Draw(1);
     let (_, chain) = SHAPES[0];
     let fresh = loaded(ordinary, chain, 1, 0, &mut draw);
-    let worn = after(fresh, 8, &mut draw);
+    let worn = after(fresh, 12, &mut draw);
     for place in 0..WORDS + WAITING + 1 {
         write!(out, "number {place}")?;
         for number in edges(&worn, 2 + place) {
@@ -182,6 +183,40 @@ fn records(out: &mut impl Write) -> io::Result<()> {
             }
         }
         writeln!(out)?;
+    }
+    Ok(())
+}
+
+/// The snow words of a sub-basin: F, threshold and SN. Whatever they are, the answers are alike.
+const SNOWS: [[u64; 3]; 6] = [
+    [0, 0, 0],
+    [0, 750, 26_000],
+    [4_500, 750, 26_000],
+    [20_000, 0, GREATEST_SNOW],
+    [20_000, 10_000, 3_000_000],
+    [20_000, 10_000, GREATEST_SNOW],
+];
+
+/// The second sub-basin of a basin and the one where more rain may yield less, each with every choice of snow words.
+fn snow(out: &mut impl Write) -> io::Result<()> {
+    let (_, chain) = SHAPES[0];
+    let mut draw = Draw(1);
+    let basin = after(loaded(ordinary, chain, 2, 1, &mut draw), 12, &mut draw);
+    for (name, basin, number) in [("ordinary", basin, 2), ("dip", dip(), 1)] {
+        for [f, threshold, sn] in SNOWS {
+            let mut snowy = basin;
+            let s = &mut snowy.subs[number - 1];
+            *s = Record { f, threshold, sn, ..*s };
+            let yields = snowy.yields(number as u64, 2.5);
+            write!(out, "snow {name} {f} {threshold} {sn}")?;
+            for rain in [2, 3, 60, 1_000] {
+                write!(out, " {}", yields.expect("a good question")[rain])?;
+            }
+            for wanted in [0, 1, 5, 100_000, 1_000_000] {
+                told(&yields, wanted, out)?;
+            }
+            writeln!(out)?;
+        }
     }
     Ok(())
 }

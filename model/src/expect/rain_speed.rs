@@ -46,8 +46,9 @@ fn filled(s: Record, state: &str, h: u64) -> Record {
     }
 }
 
+/// At 10 °C, where no threshold makes snow of the rain.
 fn call(s: &Record) -> [u64; 4] {
-    let given = step(*s, GREATEST_RAIN, 0);
+    let given = step(*s, GREATEST_RAIN, 0, 10_000);
     [given.number, given.flows.rb, given.flows.r, given.flows.q]
 }
 

@@ -4,7 +4,7 @@ use super::draft::numbers;
 use super::draw::{Checksum, Draw};
 use super::places::{brimming, damaged, edges, with};
 use super::plans::{loaded, ordinary, CHOICES, SHAPES};
-use super::weather::{bad, drawn_line};
+use super::weather::{bad, drawn_line, line_in, ordinary as course, FAULTS};
 use crate::basin::Basin;
 use crate::forcing::{Line, Reading};
 use crate::record::CASE_A;
@@ -15,6 +15,7 @@ pub fn print(out: &mut impl Write) -> io::Result<()> {
     case_a(out)?;
     lengths(out)?;
     bad_lines(out)?;
+    snow(out)?;
     outside(out)?;
     brimming_basins(out)?;
     mixed(out)
@@ -25,9 +26,9 @@ const ROOM: usize = 2_048;
 
 /// The first lines drawn, 32 in the weather of each spell; those past them are bad.
 fn drawn(count: usize, draw: &mut Draw) -> Vec<Line> {
-    let from = draw.0 as usize % 160;
-    let mut lines: Vec<Line> = (0..count).map(|k| drawn_line(from + k, draw)).collect();
-    lines.resize(ROOM, Line { rain: Reading::Missing, pan: 0.0 });
+    let from = draw.0 % 160;
+    let mut lines: Vec<Line> = (0..count as u64).map(|k| drawn_line(from + k, draw)).collect();
+    lines.resize(ROOM, Line { rain: Reading::Missing, pan: 0.0, temperature: 0.0 });
     lines
 }
 
@@ -93,8 +94,8 @@ fn print_ran(ran: &Ran, out: &mut impl Write) -> io::Result<()> {
 fn case_a(out: &mut impl Write) -> io::Result<()> {
     let (_, chain) = SHAPES[0];
     let basin = loaded(|place, _, _, _| CASE_A[place], chain, 1, 0, &mut Draw(1));
-    let measured = |rain, pan| Line { rain: Reading::Measured(rain), pan };
-    let missing = Line { rain: Reading::Missing, pan: 0.0 };
+    let measured = |rain, pan| Line { rain: Reading::Measured(rain), pan, temperature: 0.0 };
+    let missing = Line { rain: Reading::Missing, pan: 0.0, temperature: 0.0 };
     let mut both = Both::default();
     write!(out, "case A")?;
     both.week(&basin, &[measured(135.0, 0.0), missing, measured(0.0, 10.0)], out)?;
@@ -129,7 +130,7 @@ fn bad_lines(out: &mut impl Write) -> io::Result<()> {
     let mut both = Both::default();
     let mut draw = Draw(1);
     let (_, chain) = SHAPES[0];
-    for fault in 0..9 {
+    for fault in 0..FAULTS {
         for step in [1, 3, 5] {
             for line in [1, 3] {
                 let basin = loaded(ordinary, chain, 3, 2, &mut draw);
@@ -145,13 +146,39 @@ fn bad_lines(out: &mut impl Write) -> io::Result<()> {
     both.print(out)
 }
 
-/// Numbers below their range, at both its ends and above: N and M; AREA, VG and the channel store of the first sub-basin,
+/// Three weeks from frost to thaw, each on the basin that the one before hands back, and after each the same with a bad
+/// temperature in the last line of its fourth step.
+fn snow(out: &mut impl Write) -> io::Result<()> {
+    let mut both = Both::default();
+    let mut draw = Draw(1);
+    let (_, chain) = SHAPES[0];
+    for (n, m) in [(1, 0), (2, 1), (7, 5), (32, 31)] {
+        let mut basin = loaded(ordinary, chain, n, m, &mut draw);
+        for week in 0..3 {
+            let mut lines = Vec::new();
+            for day in 0..7 {
+                lines.extend((0..n).map(|_| line_in(course, 4 + 7 * week + day, &mut draw)));
+            }
+            write!(out, "snow {n} {m} {week}")?;
+            let ran = both.week(&basin, &lines, out)?;
+            let at = 4 * n as usize - 1;
+            lines[at] = bad(lines[at], 9 + week);
+            write!(out, "cut short {n} {m} {week}")?;
+            both.week(&basin, &lines, out)?;
+            basin = ran.basin;
+        }
+    }
+    write!(out, "snow")?;
+    both.print(out)
+}
+
+/// Numbers below their range, at both its ends and above: N and M; AREA, VG, SN and the channel store of the first sub-basin,
 /// REACH of the second, AREA of the third, which is unused; next and content of the reach, content of the last, unused.
 fn outside(out: &mut impl Write) -> io::Result<()> {
     let mut both = Both::default();
     let mut draw = Draw(1);
     let (_, chain) = SHAPES[0];
-    for place in [0, 1, 2, 24, 40, 57, 80, 1_252, 1_253, 1_373] {
+    for place in [0, 1, 2, 24, 27, 43, 60, 86, 1_348, 1_349, 1_469] {
         for edge in 0..4 {
             for long in [0, 14, 15, 2_002] {
                 let basin = loaded(ordinary, chain, 2, 1, &mut draw);
@@ -265,11 +292,12 @@ fn length(n: u64, y: u64, z: u64) -> usize {
     }
 }
 
-/// One list in three has two bad lines, among its own and the one past them.
+/// One list in two has two bad lines, among its own and the one past them.
 fn spoiled(mut lines: Vec<Line>, long: usize, y: u64, z: u64) -> Vec<Line> {
     let ends = long as u64 + 1;
-    if z / 8 % 3 == 0 {
-        for (at, fault) in [(y / 128 % ends, z / 32 % 9), (z / 512 % ends, y / 1_024 % 9)] {
+    if z / 8 % 2 == 0 {
+        for (at, fault) in [(y / 128 % ends, z / 32 % FAULTS), (z / 512 % ends, y / 1_024 % FAULTS)]
+        {
             lines[at as usize] = bad(lines[at as usize], fault);
         }
     }
@@ -289,7 +317,7 @@ mod tests {
     #[test]
     fn weeks_are_as_their_steps() {
         let ends = |end| printed().lines().filter(|line| line.ends_with(end)).count();
-        assert_eq!((ends(" same"), ends("not the same")), (5 + 24, 0));
+        assert_eq!((ends(" same"), ends("not the same")), (6 + 24, 0));
     }
 
     /// Among the entries of mixed lists that are printed, which begin with their number.
@@ -298,7 +326,7 @@ mod tests {
         let printed = printed();
         let is_entry = |line: &&str| line.starts_with(|first: char| first.is_ascii_digit());
         let entries: Vec<&str> = printed.lines().filter(is_entry).collect();
-        for number in ["0", "5", "6", "7", "8", "12", "13"] {
+        for number in ["0", "5", "6", "7", "8", "12", "13", "14"] {
             let met = entries.iter().filter(|line| line.split(' ').nth(2) == Some(number)).count();
             assert!(met >= 4, "{number} met {met} times");
         }

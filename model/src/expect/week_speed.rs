@@ -11,7 +11,7 @@ use std::io::{self, Write};
 /// N, M and the steps of a week; a measurement takes a hundred weeks.
 pub const SIZES: [(u64, u64, u64); 2] = [(2, 1, 1_000), (32, 31, 63)];
 
-/// The lines that all weeks repeat.
+/// The lines that all weeks repeat: of the last ordinary step, in which it does not freeze.
 const DAYS: usize = 64;
 
 pub fn print(out: &mut impl Write) -> io::Result<()> {
@@ -19,7 +19,7 @@ pub fn print(out: &mut impl Write) -> io::Result<()> {
     for (n, m, steps) in SIZES {
         let mut draw = Draw(1);
         let basin = loaded(ordinary, chain, n, m, &mut draw);
-        let days: Vec<Line> = (0..DAYS).map(|_| drawn_line(0, &mut draw)).collect();
+        let days: Vec<Line> = (0..DAYS).map(|_| drawn_line(31, &mut draw)).collect();
         let lines: Vec<Line> = days.into_iter().cycle().take((n * steps) as usize).collect();
         let week = basin.week(&lines).basin;
         let steps = lines.chunks(n as usize);

@@ -3,7 +3,7 @@
 use super::words::Counts;
 use super::Put;
 use crate::chance::Chance;
-use crate::file::GREATEST_START;
+use crate::file::IN_FILE;
 use crate::files::bytes;
 use crate::record::{range, WORDS};
 
@@ -48,7 +48,7 @@ fn outside(words: &mut [u32], counts: &Counts, chance: &mut Chance) {
             continue;
         }
         let sub: [u64; WORDS] = std::array::from_fn(|place| u64::from(words[first + place]));
-        let (least, greatest) = range(&sub, at - first, counts.m, GREATEST_START);
+        let (least, greatest) = range(&sub, at - first, counts.m, IN_FILE);
         let above = greatest as u32 + 1;
         words[at] = chance.of(&[above, above, (least as u32).saturating_sub(1), u32::MAX]);
     }

@@ -56,8 +56,8 @@ fn put(what: &Put, path: &Path) -> io::Result<()> {
 mod tests {
     use super::*;
     use crate::file::load;
-    use crate::forcing::{Line, Reading};
-    use crate::program::run;
+    use crate::forcing::{judge, Line, Reading};
+    use crate::program::{line, run};
 
     #[test]
     fn a_seed_gives_one_case() {
@@ -86,18 +86,53 @@ mod tests {
             let counts = Counts::drawn(&mut chance);
             let mut basin = load(&bytes(words::basin(&counts, &mut chance))).basin;
             let rain = Reading::Measured(chance.of(&[0.0, 20.0, 1_000.0]));
-            let line = Line { rain, pan: chance.of(&[0.0, 5.0, 100.0]) };
+            let line = Line { rain, pan: chance.of(&[0.0, 5.0, 100.0]), temperature: 0.0 };
             for _ in 0..500 {
+                let temperature = chance.of(&[-80.0, 0.0, 5.0, 60.0]);
+                let line = Line { temperature, ..line };
                 basin.advance(std::iter::repeat(line)).unwrap();
                 assert!(basin.inside(), "seed {seed}");
             }
         }
     }
 
+    /// The gate's cases before any damage: steps of a sub-basin where snow falls, melts in part and whole, waits above the
+    /// greatest P, and lies at its threshold in the rain.
+    #[test]
+    fn snow_of_every_kind() {
+        let mut seen = [0; 5];
+        for seed in 1..=300 {
+            let mut chance = Chance::new(seed);
+            let counts = Counts::drawn(&mut chance);
+            let mut basin = load(&bytes(words::basin(&counts, &mut chance))).basin;
+            let lines = readings::forcing(counts.n, &mut chance);
+            for step in lines.chunks(counts.n as usize) {
+                let step =
+                    step.iter().map(|&words| line(bytes(words).as_slice().try_into().unwrap()));
+                let before = basin;
+                if basin.advance(step.clone()).is_err() {
+                    continue;
+                }
+                for ((was, is), line) in before.subs.iter().zip(&basin.subs).zip(step) {
+                    let line = judge(&line).unwrap();
+                    let degrees = line.temperature - was.threshold as i64;
+                    let melted = was.sn.saturating_sub(is.sn);
+                    let cut = was.f as i64 * degrees / 1_000 > melted as i64;
+                    seen[0] += u32::from(is.sn > was.sn);
+                    seen[1] += u32::from(melted > 0 && is.sn > 0 && !cut);
+                    seen[2] += u32::from(melted > 0 && is.sn == 0);
+                    seen[3] += u32::from(is.sn > 0 && cut);
+                    seen[4] += u32::from(degrees == 0 && was.sn > 0 && line.rain > 0);
+                }
+            }
+        }
+        assert!(seen.into_iter().all(|times| times >= 100), "{seen:?}");
+    }
+
     /// What 2,000 cases come to print: every refusal that a file can bring about, and each ending.
     #[test]
     fn cases_of_every_kind() {
-        let mut seen = [0; 14];
+        let mut seen = [0; 15];
         let [mut accepted, mut short] = [0; 2];
         for seed in 0..2_000 {
             let bytes = |put| if let Put::File(bytes) = put { bytes } else { Vec::new() };
@@ -114,7 +149,7 @@ mod tests {
                 }
             }
         }
-        for number in [1, 2, 3, 4, 6, 7, 8, 12, 13] {
+        for number in [1, 2, 3, 4, 6, 7, 8, 12, 13, 14] {
             assert!(seen[number] >= 20, "{number}: {seen:?}");
         }
         assert!(accepted > 20_000 && short > 100, "accepted {accepted} short {short}");

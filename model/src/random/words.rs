@@ -3,7 +3,7 @@
 use crate::basin::{MOST_REACHES, MOST_SUB_BASINS};
 use crate::chance::Chance;
 use crate::curve::WHOLE;
-use crate::file::GREATEST_START;
+use crate::file::IN_FILE;
 use crate::record::{range, WORDS};
 
 /// N and M.
@@ -73,7 +73,7 @@ pub fn basin(counts: &Counts, chance: &mut Chance) -> Vec<u32> {
         // A range depends on words before its own alone.
         let mut sub = [0; WORDS];
         for place in 0..WORDS {
-            let (least, greatest) = range(&sub, place, counts.m, GREATEST_START);
+            let (least, greatest) = range(&sub, place, counts.m, IN_FILE);
             sub[place] = style.word(place, least, greatest, chance);
         }
         words.extend(sub);

@@ -4,18 +4,20 @@ use super::*;
 use crate::basin::Basin;
 use crate::chance::Chance;
 use crate::curve::by_text;
-use crate::file::GREATEST_START;
+use crate::file::IN_FILE;
 use crate::forcing::{judge, Line, Reading};
 use crate::record::{range, CASE_A, WORDS};
 
-/// The step by the rule of the first delivery: one slice of any size.
+/// The step by the rule of the first delivery: one slice of any size. At its snow threshold, as all
+/// steps here, so that P is the rain.
 fn in_one_slice(mut record: Record, rain: u64, pan: u64) -> (Record, Flows) {
-    let flows = advance_by(GREATEST_RAIN, &mut record, rain, pan);
+    let at = record.threshold as i64;
+    let flows = advance_by(GREATEST_RAIN, &mut record, rain, pan, at);
     (record, flows)
 }
 
 fn in_slices(record: Record, rain: u64, pan: u64) -> (Record, Flows) {
-    let given = step(record, rain, pan);
+    let given = step(record, rain, pan, record.threshold as i64);
     assert_eq!((given.number, given.place), (0, 0));
     (given.record, given.flows)
 }
@@ -42,13 +44,13 @@ fn case_a_prints_in_one_slice() {
         [(Reading::Measured(135.0), 0.0), (Reading::Missing, 0.0), (Reading::Measured(0.0), 10.0)];
     let mut lines = Vec::new();
     for (number, (rain, pan)) in (1..).zip(steps) {
-        lines.push(match judge(&Line { rain, pan }) {
+        lines.push(match judge(&Line { rain, pan, temperature: 0.0 }) {
             Err(refusal) => format!("{number} refused {refusal} 1"),
-            Ok(depths) => {
-                let (after, f) = in_one_slice(basin.subs[0], depths.rain, depths.pan);
+            Ok(line) => {
+                let (after, f) = in_one_slice(basin.subs[0], line.rain, line.pan);
                 basin.subs[0] = after;
                 let et = f.eu + f.el + f.ed;
-                format!("{number} ok {} {et} {} {} 0", depths.rain, f.q, basin.content())
+                format!("{number} ok {} {et} {} {} 0", line.rain, f.q, basin.content())
             }
         });
     }
@@ -60,7 +62,7 @@ fn case_a_prints_in_one_slice() {
 fn drawn(chance: &mut Chance) -> Record {
     let mut words = [0; WORDS];
     for place in 0..WORDS {
-        let (least, greatest) = range(&words, place, 0, GREATEST_START);
+        let (least, greatest) = range(&words, place, 0, IN_FILE);
         words[place] = match chance.within(1, 8) {
             1 => least,
             2 => greatest,
