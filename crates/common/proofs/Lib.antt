@@ -7,3 +7,4 @@ pub mod Greatest
 pub mod Smallest
 pub mod Cases
 pub mod Mapped
+pub mod Signed

@@ -32,6 +32,8 @@ pub enum Refusal {
     NotANumber = 12,
     // Of either sign.
     Infinite = 13,
+    // No number, infinite, or outside the range of a temperature.
+    BadTemperature = 14,
 }
 
 impl Refusal {
@@ -55,6 +57,7 @@ impl Refusal {
                 | Refusal::AboveLimit
                 | Refusal::NotANumber
                 | Refusal::Infinite
+                | Refusal::BadTemperature
         )
     }
 }
@@ -77,6 +80,7 @@ impl fmt::Display for Refusal {
             Refusal::NoSuchSubBasin => "no such sub-basin",
             Refusal::NotANumber => "not a number",
             Refusal::Infinite => "infinite",
+            Refusal::BadTemperature => "a temperature outside its range",
         })
     }
 }

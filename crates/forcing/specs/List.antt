@@ -1,6 +1,6 @@
--- The lines of one step: document 01, "The forcing list" and the gauge readers of "Who sent it", with document 02, No. 7.
+-- The lines of one step: document 01, "The forcing list" and the gauge readers of "Who sent it", with document 02, Nos. 7 and 8.
 -- Document 01 counts lines from 1, and so do places; the lists here count from 0.
-use Rattle.std.specs.Prelude.{ℕ, ◌+◌, ◌-◌, ◌≤◌, ◌<◌, ◌≡◌, Bool, true, false, cond, ◌&&◌, ◌↔◌, List, eqb, get_or, replicate, Result, Ok, Err}
+use Rattle.std.specs.Prelude.{ℕ, ◌+◌, ◌-◌, ◌≤◌, ◌<◌, ◌≡◌, Bool, true, false, cond, ◌&&◌, ◌↔◌, List, eqb, Float, get_or, replicate, Result, Ok, Err}
 use Rattle.std.specs.Float.{binary32}
 use Rattle.std.specs.Float.Ieee.{of_bits}
 use Rattle.common.specs.declared.weather.Weather.{Weather}
@@ -14,12 +14,13 @@ use Rattle.forcing.specs.declared.list.Line.{Line}
 use Rattle.forcing.specs.declared.list.Readings.{Readings}
 use Rattle.forcing.specs.declared.depth.Gauge.TheVariants.{Rain, Pan}
 use Rattle.forcing.specs.Depth.{depth_of, limit_of, from_zero_to, number_of}
+use Rattle.forcing.specs.Temperature.{thousandths, is_temperature, temperature_number}
 
 -- ---- "The forcing list": lines
 
 -- past the end of a list there is no line: its rain counts as missing
 abbrev pub blank : Line
-blank = record { rain = Missing; pan = of_bits binary32 0 }
+blank = record { rain = Missing; pan = of_bits binary32 0; temperature = of_bits binary32 0 }
 
 -- "line k for sub-basin k", with k counted from 0 here
 abbrev pub line_at : List Line → ℕ → Line
@@ -33,7 +34,7 @@ rain_depth Missing = 0
 
 -- of a line
 unfoldable pub weather_of : Line → Weather
-weather_of l = record { rain = rain_depth l.rain; pan = depth_of l.pan }
+weather_of l = record { rain = rain_depth l.rain; pan = depth_of l.pan; temperature = thousandths l.temperature }
 
 -- ---- "The forcing list": inside the limits
 
@@ -43,11 +44,12 @@ rain_inside (Measured x) = from_zero_to (limit_of Rain) x
 rain_inside (Estimated x) = from_zero_to (limit_of Rain) x
 rain_inside Missing = false
 
--- "rain isn't missing and both numbers are from 0 to their limits"
+-- "rain isn't missing and both numbers are from 0 to their limits", and the temperature is in its range
 unfoldable pub line_inside : Line → Bool
-line_inside l = rain_inside l.rain && from_zero_to (limit_of Pan) l.pan
+line_inside l = rain_inside l.rain && from_zero_to (limit_of Pan) l.pan && is_temperature l.temperature
 
--- "Forcing is inside the limits when the count is N and, in every line 1..N, rain isn't missing and both numbers are from 0 to their limits"
+-- "Forcing is inside the limits when the count is N and, in every line 1..N, rain isn't missing and both numbers are from 0 to their limits",
+-- "which now ask the temperature's range too in every line 1..N"
 pub record Inside (lines : List Line) (count n : ℕ) : Type 0 where
   pub counted : count ≡ n
   pub each : (k : ℕ) → k < n → line_inside (line_at lines k) ≡ true
@@ -72,11 +74,17 @@ rain_number (Measured x) = number_of (limit_of Rain) x
 rain_number (Estimated x) = number_of (limit_of Rain) x
 rain_number Missing = 6
 
--- "rain before pan"; a line is bad where this is not 0
-unfoldable pub line_number : Line → ℕ
-line_number l = cond (eqb (rain_number l.rain) 0) (number_of (limit_of Pan) l.pan) (rain_number l.rain)
+abbrev pub pan_number : Float → ℕ
+pan_number x = number_of (limit_of Pan) x
 
--- "6 to 8 are for the first bad line, .. place its line", and 12 and 13 "where 7 was": number and place, zeros where none of lines 1..n is bad
+-- "rain before pan", and 14 "after rain and pan on its line"; a line is bad where this is not 0
+unfoldable pub line_number : Line → ℕ
+line_number l =
+    cond (eqb (rain_number l.rain) 0)
+    (cond (eqb (pan_number l.pan) 0) (temperature_number l.temperature) (pan_number l.pan))
+    (rain_number l.rain)
+
+-- "6 to 8 are for the first bad line, .. place its line", 12 and 13 "where 7 was", and 14 "place its line": number and place, zeros where none of lines 1..n is bad
 abbrev pub first_bad_line : List Line → ℕ → ℕ × ℕ
 first_bad_line lines n = first_bad (λ k. line_number (line_at lines k)) n
 
@@ -116,18 +124,19 @@ reading lines count n = cond (eqb count n) (judged_lines lines n) (refusal 5 0)
 
 -- ---- what document 01 says of the answer r, beside this rule
 
--- "rain before pan": the number of a bad line
-pub record RainFirst (l : Line) (number : ℕ) : Type 0 where
+-- "rain before pan", and 14 "after rain and pan": the number of a bad line
+pub record InOrder (l : Line) (number : ℕ) : Type 0 where
   pub rain_bad : rain_inside l.rain ≡ false → number ≡ rain_number l.rain
-  pub rain_good : rain_inside l.rain ≡ true → number ≡ number_of (limit_of Pan) l.pan
+  pub pan_bad : rain_inside l.rain ≡ true → from_zero_to (limit_of Pan) l.pan ≡ false → number ≡ pan_number l.pan
+  pub temperature_bad : rain_inside l.rain ≡ true → from_zero_to (limit_of Pan) l.pan ≡ true → number ≡ temperature_number l.temperature
 
--- "6 to 8 are for the first bad line, rain before pan, place its line", and 12 and 13 "where 7 was"
+-- "6 to 8 are for the first bad line, rain before pan, place its line", 12 and 13 "where 7 was", and 14 "after rain and pan on its line"
 pub record ForFirstBad (lines : List Line) (n : ℕ) (r : Forcing) : Type 0 where
   pub place_least : 1 ≤ r.place
   pub place_most : r.place ≤ n
   pub before : (k : ℕ) → k + 1 < r.place → line_inside (line_at lines k) ≡ true
   pub itself : line_inside (line_at lines (r.place - 1)) ≡ false
-  pub number_is : RainFirst (line_at lines (r.place - 1)) r.number
+  pub number_is : InOrder (line_at lines (r.place - 1)) r.number
   -- "A refused step reports zeros"
   pub zeros : r ≡ refusal r.number r.place
 

@@ -1,4 +1,4 @@
-// The lines of the forcing file: document 01, "What the program prints".
+// The lines of the forcing file: document 01, "What the program prints", and document 02, No. 8.
 ghost use Rattle.std.specs.Prelude.{◌≡◌, ◌<◌};
 ghost use Rattle.forcing.specs.File.{reading_of, line_of, file_line, lines_of};
 
@@ -6,8 +6,10 @@ use crate::list::{Line, Reading};
 use common::bytes;
 use std::num::f32_from_bits_with_nan;
 
-// Three words a line.
-pub const LINE_BYTES: u64 = 12;
+// Four words a line.
+const LINE_WORDS: u64 = 4;
+
+pub const LINE_BYTES: u64 = 4 * LINE_WORDS;
 
 // The n lines of a step's bytes, at most 32; bytes past the end count as 0.
 pub fn lines_of(bytes: &[u8], n: u64) -> [Line; 32]
@@ -27,21 +29,23 @@ fn file_line(bytes: &[u8], k: usize) -> Line
     requires { k < 32 }
     ensures { result ≡ file_line bytes.now k }
 {
-    let first = 3 * k as u64;
+    let first = LINE_WORDS * k as u64;
     let kind = bytes::word(bytes, first) as u32;
     let rain = bytes::word(bytes, first + 1) as u32;
     let pan = bytes::word(bytes, first + 2) as u32;
-    line_of(kind, rain, pan)
+    let temperature = bytes::word(bytes, first + 3) as u32;
+    line_of(kind, rain, pan, temperature)
 }
 
-// The line of three words: kind, rain bits, pan bits, as the definition names it. from_bits takes no NaN's pattern.
+// The line of four words: kind, rain bits, pan bits, temperature bits, as the definition names it. from_bits takes no NaN's pattern.
 #[tactic(auto, unfolding(crate::specs::File::line_of))]
-pub fn line_of(kind: u32, rain: u32, pan: u32) -> Line
-    ensures { result ≡ line_of kind rain pan }
+pub fn line_of(kind: u32, rain: u32, pan: u32, temperature: u32) -> Line
+    ensures { result ≡ line_of kind rain pan temperature }
 {
     Line {
         rain: reading_of(kind, f32_from_bits_with_nan(rain)),
         pan: f32_from_bits_with_nan(pan),
+        temperature: f32_from_bits_with_nan(temperature),
     }
 }
 

@@ -1,7 +1,8 @@
-// The forcing list: document 01, "The forcing list", with the gauge readers and the depth call of "Who sent it", and the lines of the
-// forcing file.
+// The forcing list: document 01, "The forcing list", with the gauge readers and the depth call of "Who sent it", temperatures, and the
+// lines of the forcing file.
 #![tactic(auto)]
 
 pub mod depth;
 pub mod file;
 pub mod list;
+pub mod temperature;

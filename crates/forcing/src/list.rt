@@ -7,6 +7,7 @@ ghost use Rattle.forcing.specs.List.{weather_of, line_number, estimated_of, as_f
 ghost use Rattle.forcing.specs.Workers.{rain_call};
 
 use crate::depth::{self, Gauge};
+use crate::temperature;
 use common::refusal::{Refusal, Refused};
 use common::weather::Weather;
 
@@ -27,11 +28,13 @@ impl Reading {
     }
 }
 
-// One sub-basin's line: rain and pan, in millimetres. By default, where there is no line, rain is missing and pan 0.
+// One sub-basin's line: rain and pan in millimetres, and the air temperature in degrees Celsius. By default, where there is no line, rain is
+// missing and the others are 0.
 #[derive(Clone, Copy, Default)]
 pub struct Line {
     pub rain: Reading,
     pub pan: f32,
+    pub temperature: f32,
 }
 
 // What the lines of one step came to: how many are estimated, and the weather by sub-basin.
@@ -61,7 +64,7 @@ pub fn read(lines: [Line; 32], count: u64, n: u64) -> Result<Readings, Refused>
     Ok(Readings { estimated, weather })
 }
 
-// Rain before pan.
+// Rain before pan, and pan before the temperature.
 #[tactic(auto, using(crate::proofs::list::LineLaws::first_refuses))]
 fn judge_line(line: Line) -> Result<Weather, Refusal>
     ensures good { IfOk result (λ w. (line_number line ≡ 0) × (w ≡ weather_of line)) }
@@ -69,7 +72,12 @@ fn judge_line(line: Line) -> Result<Weather, Refusal>
 {
     let rain = judge_rain(line.rain)?;
     let pan = depth::depth_of(line.pan, Gauge::Pan)?;
-    Ok(Weather { rain, pan })
+    let temperature = temperature::temperature_of(line.temperature)?;
+    Ok(Weather {
+        rain,
+        pan,
+        temperature,
+    })
 }
 
 fn judge_rain(reading: Reading) -> Result<u64, Refusal>

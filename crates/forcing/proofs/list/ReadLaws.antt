@@ -12,6 +12,7 @@ use lib.Dec.{eqb}
 use lib.ListN.{length, get_or, replicate, get_or-eq_default}
 use lib.Ieee.{binary32, of_bits}
 use Rattle.std.proofs.lemmas.Bool.Decides.{nat_tests}
+use Rattle.std.proofs.lemmas.Int.{ints}
 use Rattle.std.proofs.Common.{Option, Some, None, Bor}
 use Rattle.std.specs.Option.{UnwrapsOrElse, option_copied}
 use Rattle.std.specs.Slice.{IsItemAt}
@@ -26,16 +27,16 @@ use Rattle.forcing.specs.declared.list.Line.{Line}
 use Rattle.forcing.specs.List.{Forcing}
 use Rattle.forcing.specs.List.{blank, line_at, weather_of, line_inside, Inside, is_inside, estimated_of}
 use Rattle.forcing.specs.List.{line_number, first_bad_line, accepted, refusal, judged_lines, reading, ForFirstBad, JudgedList}
-use Rattle.forcing.proofs.list.LineLaws.{estimated_one, line_test, rain_first, line_weather}
+use Rattle.forcing.proofs.list.LineLaws.{estimated_one, line_test, in_order, line_weather}
 
 -- ---- where there is no line
 
-pub default_blank : {l : Line} → (l.rain ≡ Missing) × (l.pan ≡ of_bits binary32 0) → l ≡ blank
-default_blank h = rw (h.0, h.1)
+pub default_blank : {l : Line} → (l.rain ≡ Missing) × ((l.pan ≡ of_bits binary32 0) × (l.temperature ≡ of_bits binary32 0)) → l ≡ blank
+default_blank h = rw (h.0, h.1.0, h.1.1)
 
 -- a line that is read by its number, and the default past the end
 pub line_read : (lines : List Line) (k : ℕ) {l : Line} (r : Option (Bor Line)) {o : Option Line}
-    → UnwrapsOrElse o (λ l. (l.rain ≡ Missing) × (l.pan ≡ of_bits binary32 0)) l → o ≡ option_copied r → IsItemAt lines k r → l ≡ line_at lines k
+    → UnwrapsOrElse o (λ l. (l.rain ≡ Missing) × ((l.pan ≡ of_bits binary32 0) × (l.temperature ≡ of_bits binary32 0))) l → o ≡ option_copied r → IsItemAt lines k r → l ≡ line_at lines k
 line_read lines k None u e h = default_blank (rw e at u) ∙ h.4 (le_refl k) blank
 line_read lines k (Some x) u e h = rw e at u ∙ h.4 (le_refl k) blank
 
@@ -130,7 +131,7 @@ module _ (lines : List Line) (count n : ℕ) where
       (λ t number place h. rw (get_or_repeat calm 32 i) none)
     where
       none : WeatherIn calm
-      none = record { rain_most = omega arith; pan_most = omega arith }
+      none = record { rain_most = omega arith; pan_most = omega arith; temperature_least = omega (arith, ints); temperature_most = omega (arith, ints) }
 
       go : Dec (i < n) → Dec (i < 32) → (i < n → line_inside (line_at lines i) ≡ true) → WeatherIn (get_or (table here calm n 32) i calm)
       go (yes l) (yes k) each = rw (table_in here calm 32 n i k l) (line_weather (line_at lines i) (each l))
@@ -170,7 +171,7 @@ module _ (lines : List Line) (count n : ℕ) where
         place_most = f.place_most;
         before = λ k p. sym (line_test (line_at lines k)) ∙ eq-eqb (line_number (line_at lines k)) 0 (f.before k p);
         itself = sym (line_test l) ∙ ne_eqb (line_number l) 0 (λ z. bad (f.number_is ∙ z));
-        number_is = rw f.number_is (rain_first l);
+        number_is = rw f.number_is (in_order l);
         zeros = refl;
       }
 

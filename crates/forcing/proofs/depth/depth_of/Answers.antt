@@ -1,12 +1,10 @@
 -- `forcing::depth::depth_of` meets its contract: only a NaN has no bits, and any other number is what its bits stand for.
 -- Assumes nothing.
-use mathlib.Core.Path.{◌≡◌, sym, ap, subst, ◌∙◌}
-use mathlib.Core.Bool.{true}
-use lib.Dec.{T}
-use lib.Ieee.{Float, binary32, fits, of_bits, to_bits, is_nan}
-use lib.Ieee.Bits.{of_bits-to_bits}
+use mathlib.Core.Path.{◌≡◌, sym, ap, ◌∙◌}
+use lib.Ieee.{Float, is_nan}
 use Rattle.forcing.specs.declared.depth.Gauge.{Gauge}
 use Rattle.forcing.specs.Depth.{Depth, depth_call, JudgedNumber}
+use Rattle.forcing.proofs.BitsLaws.{of_its_bits}
 use Rattle.forcing.proofs.depth.DepthLaws.{call_judged}
 use Rattle.forcing.proofs.depth.ValueLaws.{nan_answer}
 use Rattle.forcing.proofs.depth.depth_of.Goals as goal
@@ -18,10 +16,6 @@ answered x said e = record { answered = sym e; judged = rw (← e) (call_judged 
 
 pub returns-then-is_nan : goal.returns-then-is_nan
 returns-then-is_nan c = answered _ _ (nan_answer c.args.x c.args.said c.if-is_nan.ensures.value)
-
--- a number that the format holds, as owning an `f32` tells, is what its bits stand for
-of_its_bits : (x : Float) → fits binary32 x ≡ true → of_bits binary32 (to_bits binary32 x) ≡ x
-of_its_bits x h = of_bits-to_bits binary32 x (subst T (sym h) tt)
 
 pub judge_bits-requires : goal.judge_bits-requires
 judge_bits-requires c = ap is_nan (of_its_bits c.args.x c.well_formed.0.1) ∙ sym c.if-is_nan.ensures.value

@@ -7,4 +7,4 @@ use Rattle.forcing.proofs.file.lines_of.Goals as goal
 
 pub returns : goal.returns
 unfolding lines_of line_of
-returns c = table_made (file_line c.args.bytes.now) (line_of 0 0 0) c.args.n c.from_fn.ensures.items (λ k y q called. search (rules, tests, default_blank c.default-none.ensures))
+returns c = table_made (file_line c.args.bytes.now) (line_of 0 0 0 0) c.args.n c.from_fn.ensures.items (λ k y q called. search (rules, tests, default_blank c.default-none.ensures))

@@ -76,7 +76,7 @@ pub returns-then-count-n : goal.returns-then-count-n
 returns-then-count-n c = answered _ _ _ (rw c.into.ensures (sym (miscounted c.args.lines _ _ c.if-count-n.true)))
 
 pub loop-at-init : goal.loop-at-init
-loop-at-init c = record { filling = rw (c.default-weather.ensures.0, c.default-weather.ensures.1) fill_begin; seeking = seek_begin; adding = add_begin }
+loop-at-init c = record { filling = rw (c.default-weather.ensures.0, c.default-weather.ensures.1.0, c.default-weather.ensures.1.1) fill_begin; seeking = seek_begin; adding = add_begin }
 
 pub returns-in_err-weather : goal.returns-in_err-weather
 returns-in_err-weather c =
