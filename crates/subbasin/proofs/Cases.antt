@@ -4,16 +4,18 @@ use Prim.Native.Nat.{ℕ, ◌+◌}
 use lib.ListN.{replicate}
 use Rattle.common.specs.Amounts.{sum}
 use Rattle.common.specs.Cases.{Agree}
+use Rattle.common.proofs.Cases.{agree_all}
 use Rattle.curve.specs.Store.{outflow, content}
 use Rattle.subbasin.specs.declared.soil.Layers.{Layers}
 use Rattle.subbasin.specs.Content.{water}
+use Rattle.subbasin.specs.Snow.{snow, joined, melt, melted}
 use Rattle.subbasin.specs.Soil.{ep, deeper, evaporated}
 use Rattle.subbasin.specs.FreeWater.{drained}
 use Rattle.subbasin.specs.Lag.{leaving, waiting_after, entered}
 use Rattle.subbasin.specs.Slices.{unsliced}
-use Rattle.subbasin.specs.Step.{Stepped, layers_of, stepped, stepped_whole}
+use Rattle.subbasin.specs.Step.{Stepped, layers_of, on_ground_whole, stepped, stepped_whole}
 use Rattle.subbasin.specs.Yields.{yield}
-use Rattle.subbasin.specs.Cases.{case_a, weather_a, weather_3, whole_rain, sliced_rain, dipping, step_cases}
+use Rattle.subbasin.specs.Cases.{case_a, weather_a, weather_3, whole_rain, sliced_rain, dipping, snow_cases, step_cases}
 use Rattle.subbasin.proofs.slices.FastLaws.{fast_sliced, sliced_fast, fast_after_slice, unsliced_fast}
 use Rattle.subbasin.proofs.step.FastLaws.{fast_stepped, stepped_fast}
 
@@ -35,7 +37,7 @@ answered eu r rs rg q wu wd g vg =
       after =
           record {
             fixed = case_a.fixed;
-            contents = record { wu = wu; wl = 60000; wd = wd; g = g; vi = vg; vg = vg };
+            contents = record { wu = wu; wl = 60000; wd = wd; g = g; vi = vg; vg = vg; sn = 0 };
             line = record { lag = 0; waiting = replicate 15 0 };
             channel = 0;
           };
@@ -58,7 +60,7 @@ abbrev whole_3 : Stepped
 whole_3 = answered 10000 0 0 555 1110 10000 25000 1112 555
 
 whole_1_lem : stepped_whole case_a weather_a ≡ whole_1
-unfolding stepped_whole evaporated ep drained outflow content leaving waiting_after entered
+unfolding stepped_whole on_ground_whole snow melt melted evaporated ep drained outflow content leaving waiting_after entered
 whole_1_lem = rw whole_rain_lem
 
 abbrev layers_3 : Layers
@@ -69,7 +71,7 @@ unfolding fast_after_slice
 dry_rain_lem = unsliced_fast _ _ _ _
 
 whole_3_lem : stepped_whole whole_1.after weather_3 ≡ whole_3
-unfolding stepped_whole evaporated deeper ep drained outflow content leaving waiting_after entered
+unfolding stepped_whole on_ground_whole snow melt melted evaporated deeper ep drained outflow content leaving waiting_after entered
 whole_3_lem = rw dry_rain_lem
 
 -- by slices
@@ -93,10 +95,14 @@ above_pan : yield (dipping 32768) 40500 41 ≡ 250
 unfolding yield fast_stepped
 above_pan = ap RbAndR (stepped_fast _ _)
 
+snow_cases_lem : Agree snow_cases
+unfolding snow joined melt melted
+snow_cases_lem = agree_all snow_cases refl
+
 pub step_cases_lem : Agree step_cases
 unfolding outflow water sum
 step_cases_lem =
     rw (whole_1_lem, whole_3_lem, whole_rain_lem, step_a, sliced_rain_lem) (
       refl,
-      (refl, (refl, (refl, (refl, (refl, (refl, (refl, (refl, (refl, (refl, (refl, (refl, (refl, (refl, (refl, (refl, (seven, (eight, (above_pan, tt))))))))))))))))))),
+      (refl, (refl, (refl, (refl, (refl, (refl, (refl, (refl, (refl, (refl, (refl, (refl, (refl, (refl, (refl, (refl, (seven, (eight, (above_pan, snow_cases_lem))))))))))))))))))),
     )

@@ -1,5 +1,6 @@
 pub mod StageLaws
 pub mod FastLaws
+pub mod OnGroundLaws
 pub mod StepLaws
 pub mod CallLaws
 pub mod RouteLaws

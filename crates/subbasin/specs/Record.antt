@@ -1,4 +1,4 @@
--- A sub-basin's record and its limits: document 01, "The basin file" and 9 and 10 of "Who sent it".
+-- A sub-basin's record and its limits: document 01, "The basin file" and 9 and 10 of "Who sent it", with document 02, No. 8.
 use Rattle.std.specs.Prelude.{ℕ, ◌-◌, ◌^◌, Bool, ◌&&◌, List, [], ◌∷◌, leb, eqb, get_or, replicate}
 use Rattle.common.specs.Shares.{one}
 use Rattle.common.specs.Limits.{Word, word, values, words_in, first_out}
@@ -8,14 +8,23 @@ use Rattle.subbasin.specs.declared.record.Sender.{Sender}
 use Rattle.subbasin.specs.declared.record.Sender.TheVariants.{Author, Host}
 use Rattle.subbasin.specs.Lag.{line_in}
 
--- "23 words a sub-basin"
+-- "the length rule counts 26 words"
 abbrev pub word_count : ℕ
-word_count = 23
+word_count = 26
 
 -- "VI and VG each 0..1,000,000" in the file, "VI and VG have 0..2^33 here instead" in a basin handed in
 abbrev pub most_slow : Sender → ℕ
 most_slow Author = 1000000
 most_slow Host = 2 ^ 33
+
+-- "SN holds at most 2^40"
+abbrev pub snow_mark : ℕ
+snow_mark = 2 ^ 40
+
+-- "starting snow SN 0..3,000,000 µm" in the file; "For a basin handed in, 9 takes 0..2^40 as the range of SN in place of the file's"
+abbrev pub most_snow : Sender → ℕ
+most_snow Author = 3000000
+most_snow Host = snow_mark
 
 -- The words in the file's order, each with its range. REACH has the range 0..M.
 abbrev pub words : ℕ → Sender → SubBasin → List Word
@@ -43,6 +52,9 @@ words m v s =
     ∷ word 0 s.contents.g s.fixed.sm
     ∷ word 0 s.contents.vi (most_slow v)
     ∷ word 0 s.contents.vg (most_slow v)
+    ∷ word 0 s.fixed.f 20000
+    ∷ word 0 s.fixed.threshold 10000
+    ∷ word 0 s.contents.sn (most_snow v)
     ∷ []
 
 -- the number of the first word outside its range, counted from 0, and the word count where none is
@@ -75,9 +87,19 @@ of_words v =
             cg = get_or v 13 0;
             cs = get_or v 14 0;
             reach = get_or v 16 0;
+            f = get_or v 23 0;
+            threshold = get_or v 24 0;
           };
       contents =
-          record { wu = get_or v 17 0; wl = get_or v 18 0; wd = get_or v 19 0; g = get_or v 20 0; vi = get_or v 21 0; vg = get_or v 22 0 };
+          record {
+            wu = get_or v 17 0;
+            wl = get_or v 18 0;
+            wd = get_or v 19 0;
+            g = get_or v 20 0;
+            vi = get_or v 21 0;
+            vg = get_or v 22 0;
+            sn = get_or v 25 0;
+          };
       line = record { lag = get_or v 15 0; waiting = replicate 15 0 };
       channel = 0;
     }

@@ -1,21 +1,23 @@
--- Document 01, "One sub-basin, one step" and "The store law", with net rain as document 02, No. 3, has it: one step of a sub-basin, and
--- the sub-basin call.
-use Rattle.std.specs.Prelude.{◌≡◌, ℕ, ◌+◌, ◌-◌, ◌*◌, ◌≤◌, Bool, cond, ◌&&◌, leb, Result, Ok, Err}
+-- Document 01, "One sub-basin, one step" and "The store law", with net rain as document 02, No. 3, has it, and snow, No. 8: one step of a
+-- sub-basin, and the sub-basin call.
+use Rattle.std.specs.Prelude.{◌≡◌, ℕ, ◌+◌, ◌-◌, ◌*◌, ◌≤◌, Bool, cond, ◌&&◌, leb, int_le, Result, Ok, Err}
 use Rattle.common.specs.Shares.{one}
 use Rattle.common.specs.declared.weather.Weather.{Weather}
 use Rattle.common.specs.declared.refusal.Refusal.{Refusal}
 use Rattle.common.specs.Refusals.{number_of}
-use Rattle.common.specs.Weather.{most_rain, most_pan}
+use Rattle.common.specs.Weather.{most_rain, most_pan, least_temperature, most_temperature}
 use Rattle.curve.specs.Store.{outflow, content}
 use Rattle.subbasin.specs.declared.record.Contents.{Contents}
 use Rattle.subbasin.specs.declared.record.LagLine.{LagLine}
 use Rattle.subbasin.specs.declared.record.SubBasin.{SubBasin}
 use Rattle.subbasin.specs.declared.step.Flows.{Flows}
 use Rattle.subbasin.specs.Record.{record_in}
+use Rattle.subbasin.specs.declared.snow.Snow.{Snow}
 use Rattle.subbasin.specs.declared.soil.Layers.{Layers}
 use Rattle.subbasin.specs.declared.soil.Evaporated.{Evaporated}
 use Rattle.subbasin.specs.declared.free_water.Drained.{Drained}
 use Rattle.subbasin.specs.declared.slices.Sliced.{Sliced}
+use Rattle.subbasin.specs.Snow.{snow}
 use Rattle.subbasin.specs.Soil.{ep, evaporated}
 use Rattle.subbasin.specs.FreeWater.{drained}
 use Rattle.subbasin.specs.Slices.{sliced, unsliced}
@@ -64,7 +66,7 @@ gathered s ev sl dr vi vg line channel q =
       after =
           record {
             fixed = s.fixed;
-            contents = record { wu = sl.layers.wu; wl = sl.layers.wl; wd = sl.layers.wd; g = dr.g; vi = vi; vg = vg };
+            contents = record { wu = sl.layers.wu; wl = sl.layers.wl; wd = sl.layers.wd; g = dr.g; vi = vi; vg = vg; sn = s.contents.sn };
             line = line;
             channel = channel;
           };
@@ -105,14 +107,46 @@ evaporated_of s w = evaporated s.fixed (layers_of s.contents) w.rain (ep s.fixed
 abbrev pub with_evaporated : SubBasin → Evaporated → Stepped
 with_evaporated s ev = with_slices s ev (sliced s.fixed ev.layers s.contents.g ev.pe)
 
-unfoldable pub stepped : SubBasin → Weather → Stepped
-stepped s w = with_evaporated s (evaporated_of s w)
+-- the step on the ground, where P is the weather's rain
+unfoldable pub on_ground : SubBasin → Weather → Stepped
+on_ground s w = with_evaporated s (evaporated_of s w)
 
 -- the same with PE in one, as document 01 has it
-unfoldable pub stepped_whole : SubBasin → Weather → Stepped
-stepped_whole s w =
+unfoldable pub on_ground_whole : SubBasin → Weather → Stepped
+on_ground_whole s w =
     let ev = evaporated_of s w in
     with_slices s ev (unsliced s.fixed ev.layers s.contents.g ev.pe)
+
+-- ---- snow comes first
+
+abbrev pub snow_of : SubBasin → Weather → Snow
+snow_of s w = snow s.fixed s.contents.sn w.rain w.temperature
+
+-- the record with the snow that then lies, and the weather with P as its rain
+abbrev pub lying : SubBasin → Snow → SubBasin
+lying s n =
+    let v = s.contents in
+    record {
+      fixed = s.fixed;
+      contents = record { wu = v.wu; wl = v.wl; wd = v.wd; g = v.g; vi = v.vi; vg = v.vg; sn = n.sn };
+      line = s.line;
+      channel = s.channel;
+    }
+
+abbrev pub reaching : Weather → Snow → Weather
+reaching w n = record { rain = n.p; pan = w.pan; temperature = w.temperature }
+
+unfoldable pub stepped : SubBasin → Weather → Stepped
+stepped s w = on_ground (lying s (snow_of s w)) (reaching w (snow_of s w))
+
+unfoldable pub stepped_whole : SubBasin → Weather → Stepped
+stepped_whole s w = on_ground_whole (lying s (snow_of s w)) (reaching w (snow_of s w))
+
+-- PE
+unfoldable pub pe_of : SubBasin → Weather → ℕ
+pe_of s w = (evaporated_of (lying s (snow_of s w)) (reaching w (snow_of s w))).pe
+
+-- ---- the call
 
 -- 10, place 0, the record as it was, all else 0
 abbrev pub returned : SubBasin → Stepped
@@ -141,9 +175,12 @@ as_stepped s (Err why) =
     record
     { number = number_of why; place = 0; after = s; eu = 0; el = 0; ed = 0; rb = 0; r = 0; rs = 0; ri = 0; rg = 0; q = 0 }
 
--- "for a record that 9 would refuse (REACH isn't judged), rain above 1,000,000 or pan above 100,000"
+-- "for a record that 9 would refuse (REACH isn't judged), rain above 1,000,000 or pan above 100,000", and for a temperature "outside
+-- −80,000..60,000"
 unfoldable pub call_in : SubBasin → Weather → Bool
-call_in s w = record_in s.fixed.reach s && leb w.rain most_rain && leb w.pan most_pan
+call_in s w =
+    record_in s.fixed.reach s && leb w.rain most_rain && leb w.pan most_pan
+    && int_le least_temperature w.temperature && int_le w.temperature most_temperature
 
 -- the sub-basin call
 unfoldable pub sub_call : SubBasin → Weather → Stepped
@@ -154,4 +191,4 @@ unfoldable pub whole_call : SubBasin → Weather → Stepped
 whole_call s w = cond (call_in s w) (stepped_whole s w) (returned s)
 
 abbrev pub AsBefore : SubBasin → Weather → Stepped → Type 0
-AsBefore s w r = (evaporated_of s w).pe ≤ 5000 → r ≡ whole_call s w
+AsBefore s w r = pe_of s w ≤ 5000 → r ≡ whole_call s w

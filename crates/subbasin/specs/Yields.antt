@@ -1,5 +1,5 @@
--- Document 02, No. 5: which rain would do it?
-use Rattle.std.specs.Prelude.{◌≡◌, Bool, true, false, cond, ◌↔◌, ℕ, ◌+◌, ◌*◌, ◌≤◌, ◌<◌, Option, Some, None, Result, Ok, Err}
+-- Document 02, No. 5: which rain would do it? With the temperature of No. 8.
+use Rattle.std.specs.Prelude.{◌≡◌, Bool, true, false, cond, ◌↔◌, ℕ, ◌+◌, ◌*◌, ◌≤◌, ◌<◌, pos, Option, Some, None, Result, Ok, Err}
 use Rattle.common.specs.declared.weather.Weather.{Weather}
 use Rattle.common.specs.declared.refusal.Refusal.{Refusal}
 use Rattle.common.specs.Refusals.{number_of}
@@ -10,13 +10,13 @@ use Rattle.subbasin.specs.Step.{stepped, call_in}
 abbrev pub most_millimetres : ℕ
 most_millimetres = 1000
 
--- a line's weather with a rain of k millimetres, in µm
-abbrev pub raining : ℕ → ℕ → Weather
-raining k pan = record { rain = 1000 * k; pan = pan }
+-- a line's weather with a rain of k millimetres, in µm: "the line's temperature is taken as the threshold"
+abbrev pub raining : SubBasin → ℕ → ℕ → Weather
+raining s k pan = record { rain = 1000 * k; pan = pan; temperature = pos s.fixed.threshold }
 
 -- "RB + R of that sub-basin's next step"
 unfoldable pub yield : SubBasin → ℕ → ℕ → ℕ
-yield s pan k = (stepped s (raining k pan)).rb + (stepped s (raining k pan)).r
+yield s pan k = (stepped s (raining s k pan)).rb + (stepped s (raining s k pan)).r
 
 -- A rain that does, or none. Number and place are 0 where the question is accepted; rain is 0 where there is none, or it is refused.
 pub record Answer : Type 0 where
@@ -50,4 +50,4 @@ as_answer (Err why) = refused (number_of why)
 
 -- the sub-basin's own: 10 where its call has it, whatever the rain
 unfoldable pub own_refusal : SubBasin → ℕ → ℕ
-own_refusal s pan = cond (call_in s (raining 0 pan)) 0 10
+own_refusal s pan = cond (call_in s (raining s 0 pan)) 0 10

@@ -1,4 +1,4 @@
-// What a sub-basin holds: document 01, "The store law".
+// What a sub-basin holds: document 01, "The store law", and document 02, No. 8.
 ghost use Rattle.std.specs.Prelude.{◌≡◌};
 ghost use Rattle.common.specs.Amounts.{capped};
 ghost use Rattle.subbasin.specs.Content.{water_depth, water};
@@ -22,6 +22,6 @@ impl Contents {
     fn depth(&self) -> u64
         ensures { result ≡ capped (water_depth self.now) }
     {
-        amounts::total(&[self.wu, self.wl, self.wd, self.g, self.vi, self.vg])
+        amounts::total(&[self.wu, self.wl, self.wd, self.g, self.vi, self.vg, self.sn])
     }
 }

@@ -1,11 +1,12 @@
 // A sub-basin's record: the words of the basin file, the lag line and the channel store; and its limits.
 ghost use Rattle.std.specs.Prelude.{◌≡◌, ◌<◌, IfSome, unwrap_or};
-ghost use Rattle.subbasin.specs.Record.{word_count, most_slow, words_of, of_words, first_outside, record_in, is_blank};
+ghost use Rattle.subbasin.specs.Record.{word_count, most_slow, most_snow, words_of, of_words, first_outside, record_in, is_blank};
 
 use common::shares::ONE;
 use curve::store::MOST_CONTENT;
 
-// The words that no step changes, L apart. Area in km², capacities in µm, shares in parts of 65,536.
+// The words that no step changes, L apart. Area in km², capacities in µm, shares in parts of 65,536, the melt factor F in µm a degree, the
+// snow threshold in thousandths of a degree Celsius.
 #[derive(Clone, Copy, PartialEq, Eq, Default)]
 pub struct Parameters {
     pub area: u64,
@@ -24,9 +25,11 @@ pub struct Parameters {
     pub cg: u64,
     pub cs: u64,
     pub reach: u64,
+    pub f: u64,
+    pub threshold: u64,
 }
 
-// What waits over the sub-basin, in µm: tension water by layer, free water, interflow and ground water.
+// What waits over the sub-basin, in µm: tension water by layer, free water, interflow and ground water, and snow.
 #[derive(Clone, Copy, PartialEq, Eq, Default)]
 pub struct Contents {
     pub wu: u64,
@@ -35,6 +38,7 @@ pub struct Contents {
     pub g: u64,
     pub vi: u64,
     pub vg: u64,
+    pub sn: u64,
 }
 
 // Up to 15 amounts in m³ in waiting, the newest first, and the lag L in steps. All 15 places are there, as 9 speaks of the unused ones.
@@ -54,11 +58,35 @@ pub struct SubBasin {
 }
 
 // How many words a record has in the file, and their names.
-pub const WORDS: usize = 23;
+pub const WORDS: usize = 26;
 
 pub const NAMES: [&str; WORDS] = [
-    "area", "K", "UM", "LM", "DM", "C", "BN", "IM", "SM", "XN", "KI", "KG", "CI", "CG", "CS", "L",
-    "REACH", "WU", "WL", "WD", "G", "VI", "VG",
+    "area",
+    "K",
+    "UM",
+    "LM",
+    "DM",
+    "C",
+    "BN",
+    "IM",
+    "SM",
+    "XN",
+    "KI",
+    "KG",
+    "CI",
+    "CG",
+    "CS",
+    "L",
+    "REACH",
+    "WU",
+    "WL",
+    "WD",
+    "G",
+    "VI",
+    "VG",
+    "F",
+    "threshold",
+    "SN",
 ];
 
 // Who sent a record: what waits in it has a range by that.
@@ -80,7 +108,20 @@ impl Sender {
             Sender::Host => 1 << 33,
         }
     }
+
+    // The most of SN.
+    pub fn most_snow(self) -> u64
+        ensures { result ≡ most_snow self }
+    {
+        match self {
+            Sender::Author => 3000000,
+            Sender::Host => SNOW_MARK,
+        }
+    }
 }
+
+// Snow rises no higher, in µm.
+pub const SNOW_MARK: u64 = 1 << 40;
 
 // The record of a file's words. Lag line and CS store start empty.
 impl From<[u64; WORDS]> for SubBasin {
@@ -111,6 +152,9 @@ impl From<[u64; WORDS]> for SubBasin {
             g,
             vi,
             vg,
+            f,
+            threshold,
+            sn,
         ] = v;
         SubBasin {
             fixed: Parameters {
@@ -130,6 +174,8 @@ impl From<[u64; WORDS]> for SubBasin {
                 cg,
                 cs,
                 reach,
+                f,
+                threshold,
             },
             contents: Contents {
                 wu,
@@ -138,6 +184,7 @@ impl From<[u64; WORDS]> for SubBasin {
                 g,
                 vi,
                 vg,
+                sn,
             },
             line: LagLine {
                 lag,
@@ -179,6 +226,9 @@ impl SubBasin {
             w.g,
             w.vi,
             w.vg,
+            p.f,
+            p.threshold,
+            w.sn,
         ]
     }
 
@@ -190,6 +240,7 @@ impl SubBasin {
         let p = &self.fixed;
         let w = &self.contents;
         let slow = sender.most_slow();
+        let snow = sender.most_snow();
         // the least that each may be, the word, and the most
         let words = [
             (1, p.area, 5000),
@@ -215,6 +266,9 @@ impl SubBasin {
             (0, w.g, p.sm),
             (0, w.vi, slow),
             (0, w.vg, slow),
+            (0, p.f, 20000),
+            (0, p.threshold, 10000),
+            (0, w.sn, snow),
         ];
         words.iter().position(|&(lo, x, hi)| x < lo || hi < x)
     }

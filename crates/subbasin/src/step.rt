@@ -1,9 +1,9 @@
-// One sub-basin, one step: document 01, "One sub-basin, one step" and "The store law"; net rain as document 02, No. 3, has it.
+// One sub-basin, one step: document 01, "One sub-basin, one step" and "The store law"; net rain as document 02, No. 3, has it, and snow, No. 8.
 ghost use Rattle.std.specs.Prelude.{◌≡◌, true, ◌+◌, ◌≤◌};
 ghost use Rattle.common.specs.Shares.{one};
 ghost use Rattle.curve.specs.Store.{most_inflow, most_content};
 ghost use Rattle.subbasin.specs.Record.{record_in};
-ghost use Rattle.subbasin.specs.Step.{holds, let_go, with_drained, stepped, as_stepped, call_in, sub_call, AsBefore};
+ghost use Rattle.subbasin.specs.Step.{holds, let_go, with_drained, on_ground, as_stepped, call_in, sub_call, AsBefore};
 
 use crate::free_water::Drained;
 use crate::ground::Ground;
@@ -12,7 +12,7 @@ use crate::slices::Sliced;
 use crate::soil::Evaporated;
 use common::refusal::Refusal;
 use common::shares::ONE;
-use common::weather::{MOST_PAN, MOST_RAIN, Weather};
+use common::weather::{LEAST_TEMPERATURE, MOST_PAN, MOST_RAIN, MOST_TEMPERATURE, Weather};
 use curve::capacity::{self, Roots};
 use curve::store::Store;
 
@@ -43,10 +43,13 @@ struct Stages {
 impl SubBasin {
     // Whether a step under this weather is accepted.
     #[tactic(auto, unfolding(crate::specs::Step::call_in))]
-    pub(crate) fn accepts(&self, weather: Weather) -> bool
+    fn accepts(&self, weather: Weather) -> bool
         ensures { result ≡ call_in self.now weather }
     {
-        weather.rain <= MOST_RAIN && weather.pan <= MOST_PAN && self.allowed(self.fixed.reach)
+        weather.rain <= MOST_RAIN
+            && weather.pan <= MOST_PAN
+            && (LEAST_TEMPERATURE..=MOST_TEMPERATURE).contains(&weather.temperature)
+            && self.allowed(self.fixed.reach)
     }
 
     // One step under the weather of a line. A step that is refused leaves the record as it was.
@@ -67,15 +70,20 @@ impl SubBasin {
         if !self.accepts(weather) {
             return Err(Refusal::OutOfRange);
         }
-        let stages = self.rain_on(roots, weather);
+        let snow = self.snow(weather);
+        self.contents.sn = snow.sn;
+        // P takes rain's place.
+        let mut reaching = weather;
+        reaching.rain = snow.p;
+        let stages = self.rain_on(roots, reaching);
         Ok(self.route(stages))
     }
 
-    // The stages of soil and free water, in order.
+    // The stages of soil and free water, in order, where P is the weather's rain.
     #[tactic(auto, using(crate::proofs::step::CallLaws::called, crate::proofs::step::StageLaws::chained))]
     fn rain_on(&self, roots: &Roots, weather: Weather) -> Stages
         requires { call_in self.now weather ≡ true }
-        ensures { with_drained self.now result.ev result.sl result.dr ≡ stepped self.now weather }
+        ensures { with_drained self.now result.ev result.sl result.dr ≡ on_ground self.now weather }
     {
         let ground = Ground::of(roots, self);
         let ev = ground.evaporate(self.contents.into(), weather.rain, ground.ep(weather.pan));

@@ -1,7 +1,8 @@
-// Which rain would do it: document 02, No. 5. Rains are in whole millimetres, all else in µm.
-ghost use Rattle.std.specs.Prelude.{◌≤◌};
+// Which rain would do it: document 02, No. 5. At the threshold no snow falls and none melts. Rains are in whole millimetres, all else in µm.
+ghost use Rattle.std.specs.Prelude.{◌≡◌, ◌≤◌};
 ghost use Rattle.subbasin.specs.Soil.{wm};
-ghost use Rattle.subbasin.specs.Yields.{yield, Answers, as_answer, own_refusal};
+ghost use Rattle.subbasin.specs.Step.{call_in};
+ghost use Rattle.subbasin.specs.Yields.{raining, yield, Answers, as_answer, own_refusal};
 ghost use Rattle.subbasin.specs.Workers.{unsoaked};
 
 use crate::ground::Ground;
@@ -9,7 +10,7 @@ use crate::record::SubBasin;
 use crate::soil::Layers;
 use crate::walk::Walk;
 use common::refusal::Refusal;
-use common::weather::Weather;
+use common::weather::MOST_PAN;
 use curve::capacity;
 
 // The most millimetres of a rain.
@@ -17,17 +18,24 @@ const MOST_MM: u64 = 1000;
 
 impl SubBasin {
     // A rain for which RB + R of the next step, with this pan depth, is at least the wanted depth, or none.
-    #[tactic(auto, using(crate::proofs::step::CallLaws::called))]
+    #[tactic(auto, using(crate::proofs::yields::YieldsLaws::question_allowed))]
     pub fn rain_for(&self, pan: u64, wanted: u64) -> Result<Option<u64>, Refusal>
         ensures { Answers (own_refusal self.now pan) (yield self.now pan) wanted (as_answer result) }
     {
-        if !self.accepts(Weather { rain: 0, pan }) {
+        if !self.answers(pan) {
             return Err(Refusal::OutOfRange);
         }
         let roots = capacity::printed_roots();
         let ground = Ground::of(&roots, self);
         let w = Layers::from(self.contents).tension();
         Ok(ground.search(w, ground.ep(pan), wanted))
+    }
+
+    // Whether a question with this pan depth is accepted, as its step would be: a threshold that 9 allows is a temperature.
+    fn answers(&self, pan: u64) -> bool
+        ensures { result ≡ call_in self.now (raining self.now 0 pan) }
+    {
+        pan <= MOST_PAN && self.allowed(self.fixed.reach)
     }
 }
 

@@ -25,7 +25,7 @@ use Rattle.subbasin.specs.declared.record.SubBasin.{SubBasin}
 use Rattle.subbasin.specs.declared.record.Sender.{Sender}
 use Rattle.subbasin.specs.declared.record.Sender.TheVariants.{Host}
 use Rattle.subbasin.specs.Lag.{in_use, most_waiting, line_in}
-use Rattle.subbasin.specs.Record.{words, first_outside, words_of, of_words, word_count, most_slow, most_stored, record_in, is_blank, blank_sub}
+use Rattle.subbasin.specs.Record.{words, first_outside, words_of, of_words, word_count, most_slow, most_snow, most_stored, record_in, is_blank, blank_sub}
 
 -- ---- the first word outside, as it is looked for: a place among triples of least, value and most
 
@@ -138,6 +138,7 @@ pub record ContentsIn (v : Sender) (p : Parameters) (w : Contents) : Type 0 wher
   pub g_most : w.g ≤ p.sm
   pub vi_most : w.vi ≤ most_slow v
   pub vg_most : w.vg ≤ most_slow v
+  pub sn_most : w.sn ≤ most_snow v
 
 -- the words of a record that has other contents, REACH and its range apart
 pub words_with : (m m' : ℕ) (v v' : Sender) (s s' : SubBasin) → Within (words m v s) → s'.fixed ≡ s.fixed → s'.line.lag ≡ s.line.lag → s.fixed.reach ≤ m'
@@ -176,10 +177,10 @@ zeros (x ∷ []) = eqb x 0
 zeros (x ∷ y ∷ ys) = eqb x 0 && zeros (y ∷ ys)
 
 abbrev pub words_fixed : Parameters → List ℕ
-words_fixed p = p.area ∷ p.k ∷ p.um ∷ p.lm ∷ p.dm ∷ p.c ∷ p.bn ∷ p.im ∷ p.sm ∷ p.xn ∷ p.ki ∷ p.kg ∷ p.ci ∷ p.cg ∷ p.cs ∷ p.reach ∷ []
+words_fixed p = p.area ∷ p.k ∷ p.um ∷ p.lm ∷ p.dm ∷ p.c ∷ p.bn ∷ p.im ∷ p.sm ∷ p.xn ∷ p.ki ∷ p.kg ∷ p.ci ∷ p.cg ∷ p.cs ∷ p.reach ∷ p.f ∷ p.threshold ∷ []
 
 abbrev pub words_held : Contents → List ℕ
-words_held w = w.wu ∷ w.wl ∷ w.wd ∷ w.g ∷ w.vi ∷ w.vg ∷ []
+words_held w = w.wu ∷ w.wl ∷ w.wd ∷ w.g ∷ w.vi ∷ w.vg ∷ w.sn ∷ []
 
 -- what the derived Default makes
 abbrev pub IsDefault : SubBasin → Type 0

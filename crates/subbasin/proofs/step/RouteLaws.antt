@@ -15,7 +15,7 @@ use Rattle.subbasin.specs.Lag.{in_use, leaving}
 use Rattle.subbasin.specs.Record.{record_in, most_slow, most_stored}
 use Rattle.subbasin.specs.Step.{let_go, total}
 use Rattle.subbasin.proofs.record.RecordLaws.{record_limits}
-use Rattle.subbasin.proofs.step.StepLaws.{total_fits}
+use Rattle.subbasin.proofs.step.OnGroundLaws.{total_fits}
 
 -- the words that the way reads
 pub record RouteIn (s : SubBasin) : Type 0 where

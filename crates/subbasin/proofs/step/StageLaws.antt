@@ -1,4 +1,4 @@
--- One step in two halves: the soil's water as depths, the stages' laws added up; and the stores, the line and the channel.
+-- A step on the ground in two halves: the soil's water as depths, the stages' laws added up; and the stores, the line and the channel.
 -- Assumes nothing.
 use mathlib.Core.Path.{◌≡◌, refl, ap, ◌∙◌}
 use Prim.Native.Nat.{ℕ, ◌+◌, ◌*◌, ◌≤◌}
@@ -16,7 +16,7 @@ use Rattle.subbasin.specs.Soil.{ep, evaporated}
 use Rattle.subbasin.specs.FreeWater.{drained}
 use Rattle.subbasin.specs.Slices.{sliced}
 use Rattle.subbasin.specs.Lag.{leaving, entered}
-use Rattle.subbasin.specs.Step.{Stepped, layers_of, let_go, holds, evaporated_of, with_drained, with_slices, with_evaporated, stepped}
+use Rattle.subbasin.specs.Step.{Stepped, layers_of, let_go, holds, evaporated_of, with_drained, with_slices, with_evaporated, on_ground}
 use Rattle.common.proofs.Limits.{Within}
 use Rattle.subbasin.proofs.soil.SoilLaws.{soil_in, layers_in, Evaporates, evaporation, evaporation_in, ep_most}
 use Rattle.subbasin.proofs.free_water.FreeWaterLaws.{free_in, g_in, Drains, drained_drains}
@@ -24,8 +24,8 @@ use Rattle.subbasin.proofs.slices.SlicesLaws.{Falls, sliced_falls}
 
 -- the stages in a chain
 pub chained : (s : SubBasin) (w : Weather) {ev : Evaporated} {sl : Sliced} {dr : Drained} → ev ≡ evaporated_of s w
-    → sl ≡ sliced s.fixed ev.layers s.contents.g ev.pe → dr ≡ drained s.fixed sl.kept → with_drained s ev sl dr ≡ stepped s w
-unfolding stepped
+    → sl ≡ sliced s.fixed ev.layers s.contents.g ev.pe → dr ≡ drained s.fixed sl.kept → with_drained s ev sl dr ≡ on_ground s w
+unfolding on_ground
 chained s w {ev} {sl} ev-is sl-is dr-is =
     ap (λ (x : Drained). with_drained s ev sl x) dr-is ∙ ap (λ (x : Sliced). with_slices s ev x) sl-is ∙ ap (λ (x : Evaporated). with_evaporated s x) ev-is
 
@@ -41,8 +41,8 @@ pub record Depths (s : SubBasin) (w : Weather) (st : Stepped) : Type 0 where
   pub wd_most : st.after.contents.wd ≤ s.fixed.dm
   pub g_most : st.after.contents.g ≤ s.fixed.sm
 
-pub depths : (m : ℕ) (v : Sender) (s : SubBasin) (w : Weather) → Within (words m v s) → WeatherIn w → Depths s w (stepped s w)
-unfolding stepped
+pub depths : (m : ℕ) (v : Sender) (s : SubBasin) (w : Weather) → Within (words m v s) → WeatherIn w → Depths s w (on_ground s w)
+unfolding on_ground
 depths m v s weather h k =
     let p = s.fixed in
     let w = layers_of s.contents in
@@ -66,12 +66,13 @@ amount s st =
 -- where runoff goes: RI and RG into their stores, T into the line, what leaves the line through the channel
 pub record Routes (s : SubBasin) (st : Stepped) : Type 0 where
   pub fixed_kept : st.after.fixed ≡ s.fixed
+  pub sn_kept : st.after.contents.sn ≡ s.contents.sn
   pub vi_after : st.after.contents.vi ≡ holds s.fixed.ci s.contents.vi st.ri
   pub vg_after : st.after.contents.vg ≡ holds s.fixed.cg s.contents.vg st.rg
   pub line_after : st.after.line ≡ entered s.line (amount s st)
   pub channel_after : st.after.channel ≡ holds s.fixed.cs s.channel (leaving s.line (amount s st))
   pub q_is : st.q ≡ let_go s.fixed.cs s.channel (leaving s.line (amount s st))
 
-pub routes : (s : SubBasin) (w : Weather) → Routes s (stepped s w)
-unfolding stepped
-routes s w = record { fixed_kept = refl; vi_after = refl; vg_after = refl; line_after = refl; channel_after = refl; q_is = refl }
+pub routes : (s : SubBasin) (w : Weather) → Routes s (on_ground s w)
+unfolding on_ground
+routes s w = record { fixed_kept = refl; sn_kept = refl; vi_after = refl; vg_after = refl; line_after = refl; channel_after = refl; q_is = refl }

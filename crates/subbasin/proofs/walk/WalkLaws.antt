@@ -17,12 +17,13 @@ use Rattle.subbasin.specs.declared.slices.Sliced.{Sliced}
 use Rattle.subbasin.specs.declared.walk.Walk.{Walk}
 use Rattle.subbasin.specs.Soil.{tension, ep, evaporated, wm, rb, gain, runoff}
 use Rattle.subbasin.specs.Slices.{most_slice, after_slice, sliced}
-use Rattle.subbasin.specs.Step.{layers_of, stepped}
+use Rattle.subbasin.specs.Step.{Stepped, layers_of, on_ground}
 use Rattle.subbasin.specs.Record.{words}
-use Rattle.subbasin.specs.Yields.{yield}
+use Rattle.subbasin.specs.Yields.{most_millimetres, yield}
 use Rattle.subbasin.specs.Workers.{SoilIn, LayersIn, soaked, soaked_by, walk_at, unwalked, climbed, walked_to, net_rain, unsoaked}
 use Rattle.subbasin.proofs.soil.SoilLaws.{soil_in, layers_in, net_rain_lem, rain_enough, Gains, gain_in, refilled_fills}
 use Rattle.subbasin.proofs.free_water.FreeWaterLaws.{g_in}
+use Rattle.subbasin.proofs.step.StepLaws.{snowless}
 use Rattle.subbasin.proofs.slices.SlicesLaws.{sliced_falls, sliced_none, whole_slices, whole_falls, sliced_whole_rest}
 
 -- ---- tension water
@@ -143,11 +144,13 @@ module _ (p : Parameters) (w : Layers) (g : ℕ) (soil : SoilIn p) (fits : Layer
           rw (net_rain_lem p w soil fits rain e, z, sliced_none p (evaporated p w rain e).layers g) (omega (arith, walk_none p (tension w)))
 
 -- what a rain yields is what the walk leaves of it
-pub yield_is : (m : ℕ) (v : Sender) (s : SubBasin) (pan k : ℕ) → Within (words m v s)
+pub yield_is : (m : ℕ) (v : Sender) (s : SubBasin) (pan k : ℕ) → k ≤ most_millimetres → Within (words m v s)
     → yield s pan k ≡ unsoaked s.fixed (tension (layers_of s.contents)) (ep s.fixed pan) k
-unfolding yield stepped unsoaked
-yield_is m v s pan k h =
+unfolding yield on_ground unsoaked
+yield_is m v s pan k l h =
     omega (
       arith,
+      ap (λ (st : Stepped). st.rb) (snowless s (1000 * k) pan (omega arith)),
+      ap (λ (st : Stepped). st.r) (snowless s (1000 * k) pan (omega arith)),
       runs_off s.fixed (layers_of s.contents) s.contents.g (soil_in m v s h) (layers_in m v s h) (g_in m v s h) (1000 * k) (ep s.fixed pan),
     )

@@ -4,7 +4,7 @@ use native.Mathlib.Omega.{arith}
 use Rattle.curve.specs.declared.store.Taken.{Taken}
 use Rattle.curve.proofs.capacity.CallLaws.{unwraps, unwrapped}
 use Rattle.curve.proofs.store.StoreLaws.{store_takes}
-use Rattle.subbasin.proofs.step.StepLaws.{slow_within}
+use Rattle.subbasin.proofs.step.OnGroundLaws.{slow_within}
 use Rattle.subbasin.proofs.step.pass.Goals as goal
 
 pub unwrap-requires : goal.unwrap-requires

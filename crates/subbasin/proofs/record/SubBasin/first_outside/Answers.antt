@@ -11,4 +11,4 @@ returns-clause-numbered c =
     let ws = triples (words c.args.m c.args.sender c.args.self.now) in
     numbered _ _ _
     (position_from_yields_List out_of_range _ _ _ c.position.ensures.ran
-    (YieldsList-from_slice ws (rw (← c.saturating_sub.ensures, ← c.most_slow-slow.ensures) c.iter.ensures.rest)) (λ x b q k. search (rules, tests)))
+    (YieldsList-from_slice ws (rw (← c.saturating_sub.ensures, ← c.most_slow-slow.ensures, ← c.most_snow-snow.ensures) c.iter.ensures.rest)) (λ x b q k. search (rules, tests)))
