@@ -1,9 +1,10 @@
--- Case B: two sub-basins, the first above a reach, and no two shares alike. From demand 3 follow its figures, which the second model gave. Assumes
+-- Case B: two sub-basins, the first above a reach, both with snow, and no two shares alike. From demand 3 follow its figures, which the second model gave. Assumes
 -- nothing.
 use mathlib.Core.Path.{◌≡◌, refl, ap, ◌∙◌}
 use mathlib.Core.List.{List, [], ◌∷◌, map}
 use Prim.Native.Nat.{ℕ, ◌+◌}
 use native.Mathlib.Omega.{arith}
+use lib.IntN.{ℤ, pos, neg_ℤ}
 use lib.ListN.{replicate}
 use Rattle.common.specs.declared.weather.Weather.{Weather}
 use Rattle.common.specs.Limits.{first_out}
@@ -63,22 +64,22 @@ basin_of s t held =
     }
 
 abbrev sub_1_a : SubBasin
-sub_1_a = with_contents sub_1 (record { wu = 0; wl = 0; wd = 28201; g = 1438; vi = 1004; vg = 3530 }) (7896 ∷ replicate 14 0) 0
+sub_1_a = with_contents sub_1 (record { wu = 0; wl = 0; wd = 28001; g = 1438; vi = 1004; vg = 3530; sn = 27000 }) (7896 ∷ replicate 14 0) 0
 
 abbrev sub_2_a : SubBasin
-sub_2_a = with_contents sub_2 (record { wu = 15000; wl = 70000; wd = 45769; g = 6765; vi = 2046; vg = 5465 }) (91068 ∷ replicate 14 0) 0
+sub_2_a = with_contents sub_2 (record { wu = 15000; wl = 70000; wd = 45769; g = 6765; vi = 2046; vg = 5465; sn = 0 }) (91068 ∷ replicate 14 0) 0
 
 abbrev sub_1_c : SubBasin
-sub_1_c = with_contents sub_1 (record { wu = 12000; wl = 80000; wd = 36070; g = 3766; vi = 1453; vg = 4301 }) (233681 ∷ replicate 14 0) 3553
+sub_1_c = with_contents sub_1 (record { wu = 12000; wl = 80000; wd = 45000; g = 6878; vi = 2196; vg = 5172; sn = 2250 }) (309939 ∷ replicate 14 0) 3553
 
 abbrev sub_2_c : SubBasin
-sub_2_c = with_contents sub_2 (record { wu = 0; wl = 50501; wd = 45769; g = 3384; vi = 2295; vg = 7597 }) (3000 ∷ 91068 ∷ replicate 13 0) 0
+sub_2_c = with_contents sub_2 (record { wu = 0; wl = 49001; wd = 45769; g = 3384; vi = 2295; vg = 7597; sn = 1500 }) (3000 ∷ 91068 ∷ replicate 13 0) 0
 
 abbrev sub_1_d : SubBasin
-sub_1_d = with_contents sub_1 (record { wu = 10000; wl = 80000; wd = 36070; g = 2166; vi = 1317; vg = 4563 }) (10318 ∷ replicate 14 0) 106755
+sub_1_d = with_contents sub_1 (record { wu = 12000; wl = 80000; wd = 45000; g = 4059; vi = 2178; vg = 5894; sn = 0 }) (16555 ∷ replicate 14 0) 141070
 
 abbrev sub_2_d : SubBasin
-sub_2_d = with_contents sub_2 (record { wu = 15000; wl = 51201; wd = 45769; g = 3918; vi = 2602; vg = 10028 }) (17487 ∷ 3000 ∷ replicate 13 0) 27321
+sub_2_d = with_contents sub_2 (record { wu = 15000; wl = 50781; wd = 45769; g = 3951; vi = 2609; vg = 10051; sn = 0 }) (18558 ∷ 3000 ∷ replicate 13 0) 27321
 
 file_basin_b : file_basin file_b ≡ basin_of sub_1 sub_2 0
 unfolding file_basin filled file_sub file_reach word_at
@@ -102,14 +103,14 @@ load_b = refl
 
 -- ---- the four calls
 
-abbrev fallen : ℕ → ℕ → Weather
-fallen rain pan = record { rain = rain; pan = pan }
+abbrev fallen : ℕ → ℕ → ℤ → Weather
+fallen rain pan temperature = record { rain = rain; pan = pan; temperature = temperature }
 
 abbrev forcing_of : ℕ → Weather → Weather → Forcing
 forcing_of estimated w v = record { number = 0; place = 0; estimated = estimated; weather = w ∷ v ∷ replicate 30 calm }
 
 abbrev forcing_b1 : Forcing
-forcing_b1 = forcing_of 0 (fallen 1000 30000) (fallen 120500 3000)
+forcing_b1 = forcing_of 0 (fallen 1000 30000 (neg_ℤ (pos 3500))) (fallen 120500 3000 (pos 2063))
 
 reading_b1 : reading call_b1.lines 2 2 ≡ forcing_b1
 unfolding lines_on_words
@@ -120,14 +121,14 @@ unfolding lines_on_words
 reading_b2 = refl
 
 abbrev forcing_b3 : Forcing
-forcing_b3 = forcing_of 1 (fallen 140000 4000) (fallen 1500 40000)
+forcing_b3 = forcing_of 1 (fallen 140000 4000 (pos 6250)) (fallen 1500 40000 (neg_ℤ (pos 62)))
 
 reading_b3 : reading call_b3.lines 2 2 ≡ forcing_b3
 unfolding lines_on_words
 reading_b3 = refl
 
 abbrev forcing_b4 : Forcing
-forcing_b4 = forcing_of 1 (fallen 0 2500) (fallen 25250 500)
+forcing_b4 = forcing_of 1 (fallen 0 2500 (pos 11500)) (fallen 25250 500 (pos 3125))
 
 reading_b4 : reading call_b4.lines 2 2 ≡ forcing_b4
 unfolding lines_on_words
@@ -139,43 +140,43 @@ abbrev after_step : SubBasin → ℕ → ℕ → ℕ → ℕ → ℕ → ℕ →
 after_step s eu el ed rb r rs ri rg q =
     record { number = 0; place = 0; after = s; eu = eu; el = el; ed = ed; rb = rb; r = r; rs = rs; ri = ri; rg = rg; q = q }
 
-step_1_a : stepped sub_1 (fallen 1000 30000) ≡ after_step sub_1_a 10000 1000 1799 0 0 0 625 437 0
+step_1_a : stepped sub_1 (fallen 1000 30000 (neg_ℤ (pos 3500))) ≡ after_step sub_1_a 9000 1000 1999 0 0 0 625 437 0
 unfolding fast_stepped
 step_1_a = stepped_fast _ _
 
-step_2_a : stepped sub_2 (fallen 120500 3000) ≡ after_step sub_2_a 2699 0 0 5890 36142 23615 2028 4734 0
+step_2_a : stepped sub_2 (fallen 120500 3000 (pos 2063)) ≡ after_step sub_2_a 2699 0 0 5890 36142 23615 2028 4734 0
 unfolding fast_stepped
 step_2_a = stepped_fast _ _
 
-step_1_c : stepped sub_1_a (fallen 140000 4000) ≡ after_step sub_1_c 3200 0 0 13680 23251 18141 1637 1145 4343
+step_1_c : stepped sub_1_a (fallen 140000 4000 (pos 6250)) ≡ after_step sub_1_c 3200 0 0 16155 36396 25875 2989 2092 4343
 unfolding fast_stepped
 step_1_c = stepped_fast _ _
 
-step_2_c : stepped sub_2_a (fallen 1500 40000) ≡ after_step sub_2_c 16500 19499 0 0 0 0 1014 2367 0
+step_2_c : stepped sub_2_a (fallen 1500 40000 (neg_ℤ (pos 62))) ≡ after_step sub_2_c 15000 20999 0 0 0 0 1014 2367 0
 unfolding fast_stepped
 step_2_c = stepped_fast _ _
 
-step_1_d : stepped sub_1_c (fallen 0 2500) ≡ after_step sub_1_d 2000 0 0 0 0 0 941 659 130479
+step_1_d : stepped sub_1_c (fallen 0 2500 (pos 11500)) ≡ after_step sub_1_d 2000 0 0 25 225 45 1764 1235 172422
 unfolding fast_stepped
 step_1_d = stepped_fast _ _
 
-step_2_d : stepped sub_2_c (fallen 25250 500) ≡ after_step sub_2_d 449 0 0 1240 7861 3412 1174 2741 63747
+step_2_d : stepped sub_2_c (fallen 25250 500 (pos 3125)) ≡ after_step sub_2_d 449 0 0 1315 8206 3690 1184 2765 63747
 unfolding fast_stepped
 step_2_d = stepped_fast _ _
 
 -- ---- what the calls hand back
 
 abbrev outcome_1 : Outcome
-outcome_1 = record { number = 0; place = 0; basin = basin_of sub_1_a sub_2_a 0; report = reported 368500 97690 0 773310 0 }
+outcome_1 = record { number = 0; place = 0; basin = basin_of sub_1_a sub_2_a 0; report = reported 368500 92090 0 960910 0 }
 
 abbrev outcome_2 : Outcome
 outcome_2 = record { number = 6; place = 2; basin = basin_of sub_1_a sub_2_a 0; report = reported 0 0 0 0 0 }
 
 abbrev outcome_3 : Outcome
-outcome_3 = record { number = 0; place = 0; basin = basin_of sub_1_c sub_2_c 3388; report = reported 984500 130397 955 1626458 1 }
+outcome_3 = record { number = 0; place = 0; basin = basin_of sub_1_c sub_2_c 3388; report = reported 984500 130397 955 1814058 1 }
 
 abbrev outcome_4 : Outcome
-outcome_4 = record { number = 0; place = 0; basin = basin_of sub_1_d sub_2_d 102722; report = reported 75750 15347 94892 1591969 1 }
+outcome_4 = record { number = 0; place = 0; basin = basin_of sub_1_d sub_2_d 135438; report = reported 75750 15347 104119 1770342 1 }
 
 taken_1 : taken (basin_of sub_1 sub_2 0) forcing_b1 ≡ outcome_1
 unfolding taken basin_after sent_by rain_volume loss_volume outlet_volume content_of run filled sum_of send flows reaches_after water sum outflow content
@@ -228,13 +229,13 @@ unfolding singles
 singles_b = rw (file_n_b, steps_1, steps_2, steps_3)
 
 abbrev ran_1 : Ran
-ran_1 = record { number = 6; place = 2; basin = outcome_1.basin; count = 1; report = reported 368500 97690 0 773310 0 }
+ran_1 = record { number = 6; place = 2; basin = outcome_1.basin; count = 1; report = reported 368500 92090 0 960910 0 }
 
 abbrev ran_2 : Ran
 ran_2 = record { number = 5; place = 0; basin = outcome_1.basin; count = 0; report = reported 0 0 0 0 0 }
 
 abbrev ran_3 : Ran
-ran_3 = record { number = 0; place = 0; basin = outcome_4.basin; count = 2; report = reported 1060250 145744 95847 1591969 2 }
+ran_3 = record { number = 0; place = 0; basin = outcome_4.basin; count = 2; report = reported 1060250 145744 105074 1770342 2 }
 
 ruled_1 : rule_week (basin_of sub_1 sub_2 0) week_b1 ≡ ran_1
 unfolding fits together after rule_results
@@ -272,7 +273,7 @@ told_b b h = ap (map (λ (w : Ran). w.report)) (weeks_b b h)
 
 -- ---- the figures
 
-started_b : content_of (file_basin file_b) ≡ 502500
+started_b : content_of (file_basin file_b) ≡ 684500
 unfolding content_of sum_of water sum
 started_b = rw file_basin_b
 
@@ -280,7 +281,7 @@ rained_b : rains file_b calls_b ≡ 1428750
 unfolding rains rain_of_lines lines_on_words file_sub word_at
 rained_b = refl
 
--- 1,591,969 + 339,281 = 502,500 + 1,428,750
+-- 1,770,342 + 342,908 = 684,500 + 1,428,750
 figures_said : (b : Basin) → StepsAccounted file_b b calls_b → Says file_b calls_b figures_b b
 unfolding losses
 figures_said b h =

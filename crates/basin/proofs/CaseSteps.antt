@@ -145,6 +145,7 @@ module _ (f : List ℕ) (entries : List Entry) (b : Basin) (h : Accounted f b en
         wl_most = most.wl_most;
         wd_most = most.wd_most;
         g_most = most.g_most;
+        sn_most = most.sn_most;
       }
 
   -- all that is said of a mixed list, where what it stands for, its reports and its weeks are known

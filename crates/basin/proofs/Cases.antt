@@ -4,6 +4,7 @@ use mathlib.Core.Path.{◌≡◌, refl, ap, ◌∙◌}
 use mathlib.Core.List.{List, [], ◌∷◌, ◌++◌, map}
 use Prim.Native.Nat.{ℕ, ◌+◌}
 use native.Mathlib.Omega.{arith}
+use lib.IntN.{pos}
 use lib.ListN.{replicate}
 use Rattle.common.specs.Limits.{first_out}
 use Rattle.common.specs.Amounts.{sum}
@@ -48,7 +49,7 @@ abbrev after_1 : SubBasin
 after_1 =
     record {
       fixed = case_a.fixed;
-      contents = record { wu = 20000; wl = 60000; wd = 25030; g = 4862; vi = 1215; vg = 1215 };
+      contents = record { wu = 20000; wl = 60000; wd = 25030; g = 4862; vi = 1215; vg = 1215; sn = 0 };
       line = case_a.line;
       channel = 0;
     }
@@ -57,7 +58,7 @@ abbrev after_3 : SubBasin
 after_3 =
     record {
       fixed = case_a.fixed;
-      contents = record { wu = 10000; wl = 60000; wd = 25030; g = 2432; vi = 1215; vg = 1215 };
+      contents = record { wu = 10000; wl = 60000; wd = 25030; g = 2432; vi = 1215; vg = 1215; sn = 0 };
       line = case_a.line;
       channel = 0;
     }
@@ -85,10 +86,10 @@ file_n_a = refl
 -- ---- the three calls
 
 abbrev forcing_1 : Forcing
-forcing_1 = record { number = 0; place = 0; estimated = 0; weather = record { rain = 135000; pan = 0 } ∷ replicate 31 calm }
+forcing_1 = record { number = 0; place = 0; estimated = 0; weather = record { rain = 135000; pan = 0; temperature = pos 0 } ∷ replicate 31 calm }
 
 abbrev forcing_3 : Forcing
-forcing_3 = record { number = 0; place = 0; estimated = 0; weather = record { rain = 0; pan = 10000 } ∷ replicate 31 calm }
+forcing_3 = record { number = 0; place = 0; estimated = 0; weather = record { rain = 0; pan = 10000; temperature = pos 0 } ∷ replicate 31 calm }
 
 reading_1 : reading call_1.lines 1 1 ≡ forcing_1
 unfolding lines_on_words
@@ -103,7 +104,7 @@ unfolding lines_on_words
 reading_3 = refl
 
 -- rain falls short of EP: 10,000 come out of the upper layer, and only the slow stores flow
-step_3 : stepped after_1 (record { rain = 0; pan = 10000 })
+step_3 : stepped after_1 (record { rain = 0; pan = 10000; temperature = pos 0 })
     ≡ record {
       number = 0;
       place = 0;

@@ -5,6 +5,7 @@ use Rattle.forcing.specs.declared.list.Line.{Line}
 use Rattle.forcing.specs.List.{Forcing}
 use Rattle.forcing.specs.List.{line_at, weather_of, reading, is_inside}
 use Rattle.subbasin.specs.declared.record.SubBasin.{SubBasin}
+use Rattle.subbasin.specs.Record.{snow_mark}
 use Rattle.basin.specs.declared.state.Basin.{Basin}
 use Rattle.basin.specs.declared.step.Report.{Report}
 use Rattle.basin.specs.Step.{Outcome}
@@ -111,12 +112,13 @@ AllFollow rule got (week lines ∷ es) = (week_call got lines ≡ rule_week rule
 
 -- ---- the account
 
--- each soil store of sub-basin i at most the file's capacity
+-- each soil store of sub-basin i at most the file's capacity, and "SN stays within its mark"
 pub record Capacities (file now : SubBasin) : Type 0 where
   pub wu_most : now.contents.wu ≤ file.fixed.um
   pub wl_most : now.contents.wl ≤ file.fixed.lm
   pub wd_most : now.contents.wd ≤ file.fixed.dm
   pub g_most : now.contents.g ≤ file.fixed.sm
+  pub sn_most : now.contents.sn ≤ snow_mark
 
 -- The account of a list of entries from the basin that a load of the file f handed back.
 pub record Accounted (f : List ℕ) (loaded : Basin) (entries : List Entry) : Type 0 where

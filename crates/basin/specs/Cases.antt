@@ -1,6 +1,6 @@
 -- Document 01, "What the program prints" and "Proved cases": case A's file and calls, all proved cases as one table, and what demand 3
--- says of case A and of a second case, in figures. Those of a step are the second model's, by document 02, No. 3 and No. 6.
-use Rattle.std.specs.Prelude.{◌≡◌, List, [], ◌∷◌, ◌++◌, map, ℕ, suc, ◌+◌, ◌≤◌, replicate}
+-- says of case A and of a second case, in figures. Those of a step are the second model's, by document 02, Nos. 3, 6 and 8.
+use Rattle.std.specs.Prelude.{◌≡◌, List, [], ◌∷◌, ◌++◌, map, ℕ, suc, ◌+◌, ◌≤◌, ◌^◌, replicate}
 use Rattle.std.specs.Float.{binary32}
 use Rattle.std.specs.Float.Ieee.{of_bits}
 use Rattle.common.specs.Bytes.{bytes_of}
@@ -27,22 +27,24 @@ use Rattle.basin.specs.Account.{Entry, step, week, singles, handed, last_handed,
 abbrev pub file_a : List ℕ
 file_a = bytes_of (1 ∷ 0 ∷ words_a)
 
--- a line by its numbers' bits, and the three calls of case A: rain 135 pan 0; missing; rain 0 pan 10; a list that asks for these three as a
--- week, and for the third again as a single step
-abbrev pub measured : ℕ → ℕ → Line
-measured rain pan = record { rain = Measured (of_bits binary32 rain); pan = of_bits binary32 pan }
+-- a line by its numbers' bits, and the three calls of case A: rain 135 pan 0; missing; rain 0 pan 10; all at 0 °C; a list that asks for these three
+-- as a week, and for the third again as a single step
+abbrev pub measured : ℕ → ℕ → ℕ → Line
+measured rain pan temperature =
+    record { rain = Measured (of_bits binary32 rain); pan = of_bits binary32 pan; temperature = of_bits binary32 temperature }
 
-abbrev pub estimated : ℕ → ℕ → Line
-estimated rain pan = record { rain = Estimated (of_bits binary32 rain); pan = of_bits binary32 pan }
+abbrev pub estimated : ℕ → ℕ → ℕ → Line
+estimated rain pan temperature =
+    record { rain = Estimated (of_bits binary32 rain); pan = of_bits binary32 pan; temperature = of_bits binary32 temperature }
 
 abbrev pub called : Line → Call
 called l = record { lines = l ∷ replicate 31 blank; count = 1 }
 
 abbrev pub line_1 : Line
-line_1 = measured 0x4307_0000 0
+line_1 = measured 0x4307_0000 0 0
 
 abbrev pub line_3 : Line
-line_3 = measured 0 0x4120_0000
+line_3 = measured 0 0x4120_0000 0
 
 abbrev pub call_1 : Call
 call_1 = called line_1
@@ -113,13 +115,14 @@ pub record Figures : Type 0 where
   pub endings : List Ending
   pub bounds : List Bounds
 
--- a sub-basin has this area, and its soil stores hold at most these capacities
+-- a sub-basin has this area, its soil stores hold at most these capacities, and its snow is within its mark
 pub record HeldTo (x : Bounds) (s : SubBasin) : Type 0 where
   pub area_is : s.fixed.area ≡ x.area
   pub wu_most : s.contents.wu ≤ x.um
   pub wl_most : s.contents.wl ≤ x.lm
   pub wd_most : s.contents.wd ≤ x.dm
   pub g_most : s.contents.g ≤ x.sm
+  pub sn_most : s.contents.sn ≤ 2 ^ 40
 
 -- and so of sub-basins i, i + 1, ..
 abbrev pub Bounded : List Bounds → ℕ → Basin → Type 0
@@ -188,16 +191,16 @@ figures_a =
       bounds = record { area = 1; um = 20000; lm = 60000; dm = 40000; sm = 20000 } ∷ [];
     }
 
--- Case B: two sub-basins, the first above a reach, and no two shares alike; its figures come from the second model.
+-- Case B: two sub-basins, the first above a reach, both with snow, and no two shares alike; its figures come from the second model.
 abbrev pub words_b1 : List ℕ
 words_b1 =
     7 ∷ 52429 ∷ 12000 ∷ 80000 ∷ 45000 ∷ 13107 ∷ 20 ∷ 6554 ∷ 18000 ∷ 26 ∷ 16384 ∷ 11469 ∷ 36045 ∷ 60293 ∷ 29491 ∷ 1 ∷ 1
-    ∷ 9000 ∷ 1000 ∷ 30000 ∷ 2500 ∷ 1200 ∷ 3400 ∷ []
+    ∷ 9000 ∷ 1000 ∷ 30000 ∷ 2500 ∷ 1200 ∷ 3400 ∷ 4500 ∷ 750 ∷ 26000 ∷ []
 
 abbrev pub words_b2 : List ℕ
 words_b2 =
     3 ∷ 58982 ∷ 15000 ∷ 70000 ∷ 50000 ∷ 8520 ∷ 22 ∷ 3277 ∷ 25000 ∷ 28 ∷ 9830 ∷ 22938 ∷ 49152 ∷ 63570 ∷ 19661 ∷ 2 ∷ 0
-    ∷ 5000 ∷ 30000 ∷ 20000 ∷ 1000 ∷ 700 ∷ 900 ∷ []
+    ∷ 5000 ∷ 30000 ∷ 20000 ∷ 1000 ∷ 700 ∷ 900 ∷ 3000 ∷ 1250 ∷ 0 ∷ []
 
 abbrev pub file_b : List ℕ
 file_b = bytes_of (2 ∷ 1 ∷ words_b1 ++ words_b2 ++ (14418 ∷ 32768 ∷ 0 ∷ []))
@@ -205,19 +208,19 @@ file_b = bytes_of (2 ∷ 1 ∷ words_b1 ++ words_b2 ++ (14418 ∷ 32768 ∷ 0 �
 abbrev pub both_called : List Line → Call
 both_called ls = record { lines = ls ++ replicate 30 blank; count = 2 }
 
--- rain 1 pan 30 and rain 120.5 pan 3; rain 12 pan 1 and a missing one; estimated 140 pan 4 and rain 1.5 pan 40; rain 0 pan 2.5 and
--- estimated 25.25 pan 0.5
+-- rain 1 pan 30 at -3.5 °C and rain 120.5 pan 3 at 2.0625; rain 12 pan 1 at 0.5 and a missing one; estimated 140 pan 4 at 6.25 and rain 1.5
+-- pan 40 at -0.0625; rain 0 pan 2.5 at 11.5 and estimated 25.25 pan 0.5 at 3.125
 abbrev pub lines_b1 : List Line
-lines_b1 = measured 0x3f80_0000 0x41f0_0000 ∷ measured 0x42f1_0000 0x4040_0000 ∷ []
+lines_b1 = measured 0x3f80_0000 0x41f0_0000 0xc060_0000 ∷ measured 0x42f1_0000 0x4040_0000 0x4004_0000 ∷ []
 
 abbrev pub lines_b2 : List Line
-lines_b2 = measured 0x4140_0000 0x3f80_0000 ∷ blank ∷ []
+lines_b2 = measured 0x4140_0000 0x3f80_0000 0x3f00_0000 ∷ blank ∷ []
 
 abbrev pub lines_b3 : List Line
-lines_b3 = estimated 0x430c_0000 0x4080_0000 ∷ measured 0x3fc0_0000 0x4220_0000 ∷ []
+lines_b3 = estimated 0x430c_0000 0x4080_0000 0x40c8_0000 ∷ measured 0x3fc0_0000 0x4220_0000 0xbd80_0000 ∷ []
 
 abbrev pub lines_b4 : List Line
-lines_b4 = measured 0 0x4020_0000 ∷ estimated 0x41ca_0000 0x3f00_0000 ∷ []
+lines_b4 = measured 0 0x4020_0000 0x4138_0000 ∷ estimated 0x41ca_0000 0x3f00_0000 0x4048_0000 ∷ []
 
 abbrev pub call_b1 : Call
 call_b1 = both_called lines_b1
@@ -250,19 +253,19 @@ entries_b = week week_b1 ∷ week week_b2 ∷ week week_b3 ∷ []
 abbrev pub figures_b : Figures
 figures_b =
     record {
-      started = 502500;
+      started = 684500;
       rained = 1428750;
-      lost = 339281;
-      left = 1591969;
+      lost = 342908;
+      left = 1770342;
       numbers = 0 ∷ 6 ∷ 0 ∷ 0 ∷ [];
       places = 0 ∷ 2 ∷ 0 ∷ 0 ∷ [];
       reports =
-          reported 368500 97690 0 773310 0
+          reported 368500 92090 0 960910 0
           ∷ reported 0 0 0 0 0
-          ∷ reported 984500 130397 955 1626458 1
-          ∷ reported 75750 15347 94892 1591969 1
+          ∷ reported 984500 130397 955 1814058 1
+          ∷ reported 75750 15347 104119 1770342 1
           ∷ [];
-      told = reported 368500 97690 0 773310 0 ∷ reported 0 0 0 0 0 ∷ reported 1060250 145744 95847 1591969 2 ∷ [];
+      told = reported 368500 92090 0 960910 0 ∷ reported 0 0 0 0 0 ∷ reported 1060250 145744 105074 1770342 2 ∷ [];
       endings = ends 6 2 1 ∷ ends 5 0 0 ∷ ends 0 0 2 ∷ [];
       bounds =
           record { area = 7; um = 12000; lm = 80000; dm = 45000; sm = 18000 }

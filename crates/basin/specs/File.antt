@@ -13,7 +13,7 @@ use Rattle.basin.specs.declared.state.Basin.{Basin}
 use Rattle.basin.specs.Reach.{reach_word_count, reach_words, reach_words_of, blank_reach}
 use Rattle.basin.specs.State.{most_subs, most_reaches, sub_at, reach_at, empty_basin}
 
--- "N, M, then 23 words a sub-basin, then 3 a reach"
+-- "N, M, then 23 words a sub-basin", 26 with document 02, No. 8, "then 3 a reach"
 abbrev pub file_n : List ℕ → ℕ
 file_n f = word_at f 0
 
@@ -83,7 +83,7 @@ as_loaded (Err r) = refused_load (number_of r.why) r.place
 unfoldable pub load_words : List ℕ → Loaded
 load_words f = cond (eqb (first_out (file_words f)) (length (file_words f))) (accepted_load f) (refused_load 4 (2 + first_out (file_words f)))
 
--- "3 length not 4 × (2 + 23N + 3M) (place 0)"
+-- "3 length not 4 × (2 + 23N + 3M) (place 0)", where "the length rule counts 26 words"
 unfoldable pub load_length : List ℕ → Loaded
 load_length f = cond (eqb (length f) (4 * (2 + word_count * file_n f + reach_word_count * file_m f))) (load_words f) (refused_load 3 0)
 

@@ -22,7 +22,7 @@ sub_at b i = get_or b.subs i blank_sub
 abbrev pub reach_at : Basin → ℕ → Reach
 reach_at b j = get_or b.reaches j blank_reach
 
--- "Content is area × (WU + WL + WD + G + VI + VG) of every sub-basin plus all waiting amounts, CS stores and reaches"
+-- "Content is area × (WU + WL + WD + G + VI + VG) of every sub-basin plus all waiting amounts, CS stores and reaches"; it "includes SN"
 unfoldable pub content_of : Basin → ℕ
 content_of b = sum_of (λ i. water (sub_at b i)) b.n + sum_of (λ j. (reach_at b j).content) b.m
 

@@ -32,7 +32,7 @@ basin_after b ws =
       reaches = reaches_after b.reaches b.m (sent_by b ws b.n);
     }
 
--- "A step's rain in m³ is area × the rain depth in µm of the sub-basin's line", "summed over sub-basins 1..N"
+-- "A step's rain in m³ is area × the rain depth in µm of the sub-basin's line", "summed over sub-basins 1..N": "the gauge's reading and not P"
 unfoldable pub rain_volume : Basin → List Weather → ℕ
 rain_volume b ws = sum_of (λ i. (sub_at b i).fixed.area * (get_or ws i calm).rain) b.n
 

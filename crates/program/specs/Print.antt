@@ -1,6 +1,6 @@
 -- Document 01: "What the program prints", as ASCII codes.
 use Rattle.std.specs.Prelude.{ℕ, zero, suc, ◌+◌, ◌*◌, ◌/◌, ◌%◌, true, false, cond, List, [], ◌∷◌, ◌++◌, eqb, ltb, length, take, drop}
-use Rattle.forcing.specs.File.{lines_of}
+use Rattle.forcing.specs.File.{line_words, lines_of}
 use Rattle.basin.specs.declared.state.Basin.{Basin}
 use Rattle.basin.specs.declared.step.Report.{Report}
 use Rattle.basin.specs.Calls.{Call}
@@ -75,9 +75,9 @@ part_text count = cond (eqb count 0) [] (short_text count)
 
 -- ---- the forcing file
 
--- "a step has three words a line": the bytes of a step of n lines
+-- "a step has three words a line", and a temperature's bits "as a fourth word of the line": the bytes of a step of n lines
 abbrev pub step_bytes : ℕ → ℕ
-step_bytes n = 12 * n
+step_bytes n = 4 * line_words * n
 
 -- step k, counted from 0
 unfoldable pub call_at : ℕ → List ℕ → ℕ → Call

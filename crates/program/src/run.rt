@@ -36,7 +36,7 @@ pub fn run<R: io::Read, W: io::Write, E: io::Write>(
     let size = (file::LINE_BYTES * n) as usize;
     let whole = STEPS * size;
     // A buffer, the first `kept` bytes of which are filled: a read goes into its free part, and an ArrayVec lends none.
-    let mut input = [0u8; 24576];
+    let mut input = [0u8; 32768];
     let mut kept = 0;
     let mut done: u64 = 0;
     for _ in 0..READS {

@@ -6,7 +6,7 @@ use Rattle.program.proofs.run.run.Given as goal
 
 abbrev pub invariant-loop : goal.invariant-loop
 invariant-loop g l = record {
-  input_long : length l.input ≡ 24576;
+  input_long : length l.input ≡ 32768;
   done_most : l.done ≤ 64 * l.counter;
   lines : List ℕ;
   running : Running l.initial.basin l.n l.input l.kept l.done l.basin lines;
