@@ -13,9 +13,9 @@ pub struct Call {
     pub count: u64,
 }
 
-// One of 24 faults, drawn: 5 of the count, 9 of a line, and otherwise of the basin, twice with another.
+// One of 28 faults, drawn: 5 of the count, 13 of a line, and otherwise of the basin, twice with another.
 pub fn astray(b: &Basin, lines: &[Line; 32], chance: &mut Chance) -> Call {
-    let k = chance.x % 24;
+    let k = chance.x % 28;
     let [x, y] = chance.draws::<2>();
     let mut call = Call {
         basin: *b,
@@ -24,17 +24,17 @@ pub fn astray(b: &Basin, lines: &[Line; 32], chance: &mut Chance) -> Call {
     };
     match k {
         0..=4 => call.count = chance::one_of(wrong_counts(b.n), k),
-        5..=13 => spoil(
+        5..=17 => spoil(
             &mut call.lines,
             b.n,
             chance::one_of(Fault::ALL, k - 5),
             [x, y],
         ),
-        14 => {
+        18 => {
             places::damage(&mut call.basin, [x, y]);
             call.count = chance::one_of(wrong_counts(b.n), y);
         }
-        15 => {
+        19 => {
             places::damage(&mut call.basin, [x, y]);
             spoil(&mut call.lines, b.n, Fault::ALL[0], [x, y]);
         }

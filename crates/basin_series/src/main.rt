@@ -1,4 +1,4 @@
-// The step call: case A of document 01, every number of a basin at both ends of its limits and beyond, and long series on basins of
+// The step call: case A of document 01, every number of a basin at both ends of its limits and beyond, snow, and long series on basins of
 // every shape, with refused steps among them. What it must print comes from the second model: `model expect basin_series`.
 #![tactic(auto)]
 
@@ -6,6 +6,7 @@ mod faults;
 mod limits;
 mod plan;
 mod series;
+mod snow;
 
 use basin_testing::calls;
 use basin_testing::weather::CASE_A;
@@ -17,6 +18,7 @@ use testing::drafts::Plan;
 fn main(rt: HostRuntime) -> io::Result<()> {
     case_a(&rt)?;
     limits_after_steps(&rt)?;
+    snow::rows(&rt)?;
     plan::rows(&rt)
 }
 

@@ -38,9 +38,14 @@ pub fn run(
 
 // Every number of an answer: number and place, the report, the basin.
 pub fn add(sum: &mut Checksum, given: &Result<Report, Refused>, after: &Basin) {
+    add_report(sum, given);
+    add_basin(sum, after);
+}
+
+// All but the basin.
+pub fn add_report(sum: &mut Checksum, given: &Result<Report, Refused>) {
     sum.add_row(&refusals::told(given));
     sum.add_row(&given.unwrap_or_default().numbers());
-    add_basin(sum, after);
 }
 
 // A step as the program prints it: document 01, "What the program prints".

@@ -73,7 +73,7 @@ pub enum Brim {
 impl Brim {
     pub const ALL: [Brim; 2] = [Brim::AtOnce, Brim::Slowly];
 
-    // VI, VG, amounts in waiting, channel stores and reaches at their limits.
+    // VI, VG, SN, amounts in waiting, channel stores and reaches at their limits.
     pub fn fill(self, b: &mut Basin) {
         for place in 0..PLACES {
             if let Some(edge) = self.edge(spot_of(place)) {
@@ -88,7 +88,10 @@ impl Brim {
                 Brim::AtOnce => Some(Edge::Least),
                 Brim::Slowly => Some(Edge::Most),
             },
-            Spot::Sub { place: 21 | 22, .. } => Some(Edge::Most),
+            Spot::Sub {
+                place: 21 | 22 | 25,
+                ..
+            } => Some(Edge::Most),
             Spot::Sub { place, .. } if record::WORDS <= place => Some(Edge::Most),
             Spot::Reach { place: 3, .. } => Some(Edge::Most),
             _ => None,

@@ -19,30 +19,40 @@ fn main(rt: HostRuntime) -> io::Result<()> {
     };
     let monday = day(
         &mut basin,
+        -1.5,
         Reading::Measured(42.5),
         Reading::Measured(120.5),
     );
     print(&rt, monday)?;
     let tuesday = day(
         &mut basin,
+        6.25,
         Reading::Estimated(140.0),
         Reading::Measured(1.5),
     );
     print(&rt, tuesday)?;
-    let wednesday = day(&mut basin, Reading::Missing, Reading::Measured(0.0));
+    let wednesday = day(&mut basin, 4.0, Reading::Missing, Reading::Measured(0.0));
     print(&rt, wednesday)
 }
 
-// One step: it takes 32 lines and looks at the first two. One that is refused leaves the basin as it was.
-fn day(basin: &mut Basin, first: Reading, second: Reading) -> Result<Report, Refused> {
+// One step: it takes 32 lines and looks at the first two. The second sub-basin lies lower, and is 3 °C warmer. A step that is refused leaves
+// the basin as it was.
+fn day(
+    basin: &mut Basin,
+    degrees: f32,
+    first: Reading,
+    second: Reading,
+) -> Result<Report, Refused> {
     let mut lines = [Line::default(); 32];
     lines[0] = Line {
         rain: first,
         pan: 4.0,
+        temperature: degrees,
     };
     lines[1] = Line {
         rain: second,
         pan: 3.5,
+        temperature: degrees + 3.0,
     };
     basin.step(lines, 2)
 }

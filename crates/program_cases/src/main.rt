@@ -7,7 +7,7 @@ use program::say;
 use std::fmt::InlineText;
 use std::io;
 
-const CASES: u8 = 19;
+const CASES: u8 = 25;
 
 fn main(rt: HostRuntime) -> io::Result<()> {
     cases(rt)?;
@@ -15,9 +15,9 @@ fn main(rt: HostRuntime) -> io::Result<()> {
     refused_loads(&mut to, 1, 0);
     refused_loads(&mut to, 2, 3);
     refused_loads(&mut to, 32, 31);
-    say::short(&mut to, 1, 12, 1);
-    say::short(&mut to, 59, 60, 1097);
-    say::short(&mut to, 383, 384, u64::MAX);
+    say::short(&mut to, 1, 16, 1);
+    say::short(&mut to, 79, 80, 1097);
+    say::short(&mut to, 511, 512, u64::MAX);
     Ok(())
 }
 
@@ -51,7 +51,7 @@ fn refused_loads<W: io::Write>(to: &mut W, n: u8, m: u8) {
     say(Refusal::Counts, 0);
     say(Refusal::Counts, 1);
     say(Refusal::Length, 0);
-    for place in 2..2 + 23 * n as u64 + 3 * m as u64 {
+    for place in 2..2 + 26 * n as u64 + 3 * m as u64 {
         say(Refusal::Word, place);
     }
 }

@@ -77,13 +77,13 @@ impl Own {
         rain <= 1000 && wanted <= self.yielded(rain)
     }
 
-    // RB + R of a step under so many millimetres of rain.
+    // RB + R of a step under so many millimetres of rain, at the snow threshold.
     pub fn yielded(&self, rain: u64) -> u64 {
         let mut after = self.sub;
-        let rain = rain.saturating_mul(1000);
         match after.step(Weather {
-            rain,
+            rain: rain.saturating_mul(1000),
             pan: self.pan,
+            temperature: self.sub.fixed.threshold.min(10000) as i64,
         }) {
             Ok(given) => given.rb.wrapping_add(given.r),
             Err(_) => 0,

@@ -1,5 +1,5 @@
-// The rain call: a sub-basin where more rain may yield less, drawn basins, refusals, and the sub-basin's own call. Of an answer is printed
-// what every right choice of a rain has in common. What it must print comes from the second model: `model expect rain_cases`.
+// The rain call: a sub-basin where more rain may yield less, drawn basins, refusals, the sub-basin's own call, and snow. Of an answer is
+// printed what every right choice of a rain has in common. What it must print comes from the second model: `model expect rain_cases`.
 #![tactic(auto)]
 
 mod asked;
@@ -8,6 +8,7 @@ mod drawn;
 mod outside;
 mod records;
 mod refusals;
+mod snow;
 
 use std::io;
 
@@ -17,5 +18,6 @@ fn main(rt: HostRuntime) -> io::Result<()> {
     refusals::rows(&rt)?;
     refusals::pans(&rt)?;
     outside::rows(&rt)?;
-    records::rows(&rt)
+    records::rows(&rt)?;
+    snow::rows(&rt)
 }

@@ -10,9 +10,9 @@ use testing::drafts::Plan;
 use testing::lines::Row;
 use testing::ranges::Edge;
 
-// N and M; AREA, WU, VG, the first amount in waiting and the channel store of the first sub-basin; REACH of the second; AREA of the
+// N and M; AREA, WU, VG, SN, the first amount in waiting and the channel store of the first sub-basin; REACH of the second; AREA of the
 // third, which is unused; next and content of the reach; content of the last reach, which is unused.
-const PLACES: [usize; 12] = [0, 1, 2, 19, 24, 25, 40, 57, 80, 1252, 1253, 1373];
+const PLACES: [usize; 13] = [0, 1, 2, 19, 24, 27, 28, 43, 60, 86, 1348, 1349, 1469];
 
 // Sub-basin numbers and pans.
 const QUESTIONS: [(u64, f32); 6] = [

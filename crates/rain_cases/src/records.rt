@@ -18,7 +18,7 @@ pub fn rows(rt: &impl Print) -> io::Result<()> {
     let mut chance = Chance::new();
     let fresh = calls::started(Plan::chain(Choice::Ordinary, 1, 0), &mut chance);
     let mut worn = fresh;
-    drawn::go_on(&mut worn, &mut chance, 8);
+    drawn::go_on(&mut worn, &mut chance, 12);
     numbers(rt, &worn)?;
     let records = [fresh.subs[0], worn.subs[0], dip::basin().subs[0]];
     for pan in PANS {

@@ -111,9 +111,11 @@ impl Way {
     }
 }
 
+// At 10 °C, where no threshold makes snow of the rain.
 const MOST: Weather = Weather {
     rain: 1000000,
     pan: 0,
+    temperature: 10000,
 };
 
 // What is asked of each sub-basin in turn, beside which idle takes the WU alone.

@@ -11,7 +11,7 @@ pub fn case_a() -> SubBasin {
 pub fn middling() -> SubBasin {
     let mut s = SubBasin::from([
         800, 62000, 15000, 70000, 50000, 10000, 21, 1311, 25000, 23, 20000, 25000, 50000, 64000,
-        40000, 5, 2, 5000, 30000, 20000, 3000, 1500, 90000,
+        40000, 5, 2, 5000, 30000, 20000, 3000, 1500, 90000, 4500, 750, 26000,
     ]);
     s.line.waiting.fill(1000000);
     s.channel = 5000000;
@@ -51,6 +51,15 @@ pub fn drains(ki: u64, kg: u64) -> SubBasin {
 pub fn recessions(share: u64) -> SubBasin {
     let mut s = middling();
     set_recessions(&mut s, share);
+    s
+}
+
+// The record with F, threshold and SN given.
+pub fn snowy(record: SubBasin, [f, threshold, sn]: [u64; 3]) -> SubBasin {
+    let mut s = record;
+    s.fixed.f = f;
+    s.fixed.threshold = threshold;
+    s.contents.sn = sn;
     s
 }
 

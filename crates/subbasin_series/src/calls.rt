@@ -1,6 +1,6 @@
-// A sub-basin call as numbers by place: the record's, then rain and pan; their ranges; and what the call hands back.
+// A sub-basin call as numbers by place: the record's, then rain, pan and temperature; their ranges; and what the call hands back.
 use common::refusal::Refusal;
-use common::weather::{MOST_PAN, MOST_RAIN, Weather};
+use common::weather::{LEAST_TEMPERATURE, MOST_PAN, MOST_RAIN, MOST_TEMPERATURE, Weather};
 use std::io;
 use subbasin::record::{Sender, SubBasin};
 use subbasin::step::Flows;
@@ -18,7 +18,9 @@ pub struct Call {
 
 const RAIN: usize = rows::PLACES;
 
-pub const PLACES: usize = rows::PLACES + 2;
+const PAN: usize = rows::PLACES + 1;
+
+pub const PLACES: usize = rows::PLACES + 3;
 
 impl Call {
     // Makes the call: the record is then the one that is handed back.
@@ -31,49 +33,60 @@ impl Call {
         let before = Numbers::from(&self.record);
         let given = self.take();
         let after = Numbers::from(&self.record);
-        let [number, place] = refusals::told(&given);
-        let row = [self.weather.rain, self.weather.pan, number, place];
+        let Weather {
+            rain,
+            pan,
+            temperature,
+        } = self.weather;
         println!(rt;
-            "step{}{}{}{}",
+            "step{} {rain} {pan} {temperature}{}{}{}",
             Row(&before.0),
-            Row(&row),
+            Row(&refusals::told(&given)),
             Row(&after.0),
             Row(&flows_of(&given))
         )?;
         Ok(given)
     }
 
-    pub fn at(&self, place: usize) -> u64 {
+    // The call with the number at a place at an edge of its range, or above it where nothing stands below.
+    pub fn edged(&self, place: usize, edge: Edge) -> Call {
+        let mut call = *self;
         match Spot::from(place) {
-            Spot::Record(place) => rows::at(&self.record, place),
-            Spot::Rain => self.weather.rain,
-            Spot::Pan => self.weather.pan,
+            Spot::Record(place) => {
+                let v = at(record_range(&self.record, place, Sender::Host), edge);
+                rows::put(&mut call.record, place, v);
+            }
+            Spot::Rain => call.weather.rain = at(Range::between(0, MOST_RAIN), edge),
+            Spot::Pan => call.weather.pan = at(Range::between(0, MOST_PAN), edge),
+            Spot::Temperature => call.weather.temperature = temperature_at(edge),
         }
+        call
     }
 
-    pub fn put(&mut self, place: usize, v: u64) {
-        match Spot::from(place) {
-            Spot::Record(place) => rows::put(&mut self.record, place, v),
-            Spot::Rain => self.weather.rain = v,
-            Spot::Pan => self.weather.pan = v,
+    // Goes on from the record that another call handed back, but for the number at a place.
+    pub fn go_on(&mut self, other: &Call, place: usize) {
+        let right = rows::at(&self.record, place);
+        self.record = other.record;
+        if let Spot::Record(place) = Spot::from(place) {
+            rows::put(&mut self.record, place, right);
         }
     }
+}
 
-    fn range_of(&self, place: usize) -> Range {
-        match Spot::from(place) {
-            Spot::Record(place) => record_range(&self.record, place, Sender::Host),
-            Spot::Rain => Range::between(0, MOST_RAIN),
-            Spot::Pan => Range::between(0, MOST_PAN),
-        }
+fn at(range: Range, edge: Edge) -> u64 {
+    match edge {
+        Edge::Below if range.least == 0 => range.at(Edge::Above),
+        _ => range.at(edge),
     }
+}
 
-    // At an edge of its range, or above it where nothing stands below.
-    pub fn edge_of(&self, place: usize, edge: Edge) -> u64 {
-        let range = self.range_of(place);
-        match edge {
-            Edge::Below if range.least == 0 => range.at(Edge::Above),
-            _ => range.at(edge),
-        }
+fn temperature_at(edge: Edge) -> i64 {
+    match edge {
+        Edge::Below => LEAST_TEMPERATURE - 1,
+        Edge::Least => LEAST_TEMPERATURE,
+        Edge::Most => MOST_TEMPERATURE,
+        Edge::Above => MOST_TEMPERATURE + 1,
+        Edge::Far => i64::MAX,
     }
 }
 
@@ -83,16 +96,16 @@ enum Spot {
     Record(usize),
     Rain,
     Pan,
+    Temperature,
 }
 
 impl From<usize> for Spot {
     fn from(place: usize) -> Spot {
-        if place < RAIN {
-            Spot::Record(place)
-        } else if place == RAIN {
-            Spot::Rain
-        } else {
-            Spot::Pan
+        match place {
+            _ if place < rows::PLACES => Spot::Record(place),
+            RAIN => Spot::Rain,
+            PAN => Spot::Pan,
+            _ => Spot::Temperature,
         }
     }
 }

@@ -8,6 +8,7 @@ mod choices;
 mod limits;
 mod plan;
 mod series;
+mod snow;
 
 use calls::Call;
 use common::weather::Weather;
@@ -30,6 +31,9 @@ fn main(rt: HostRuntime) -> io::Result<()> {
     }
     limits::places(&rt, basins::case_a())?;
     limits::places(&rt, basins::middling())?;
+    limits::temperatures(&rt, basins::case_a())?;
+    limits::temperatures(&rt, basins::middling())?;
+    snow::rows(&rt)?;
     plan::weathers(&rt, "case_a", basins::case_a())?;
     plan::weathers(&rt, "middling", basins::middling())?;
     plan::extremes(&rt)?;
@@ -38,7 +42,7 @@ fn main(rt: HostRuntime) -> io::Result<()> {
     plan::drawn(&rt, "any", Choice::Any, Climate::Mixed)
 }
 
-// A step with rain alone and a step with pan alone, in full. Where a brimming record recedes slowest, the first leaves the channel
+// A step with rain alone and a step with pan alone, in full, at the snow threshold, where all rain is P. Where a brimming record recedes slowest, the first leaves the channel
 // store above its limit, and the second is refused.
 fn two_steps(rt: &impl Print, start: SubBasin, rain: u64, pan: u64) -> io::Result<()> {
     let first = step(rt, start, rain, 0)?;
@@ -57,7 +61,11 @@ fn cuts(rt: &impl Print, start: SubBasin) -> io::Result<()> {
 fn step(rt: &impl Print, record: SubBasin, rain: u64, pan: u64) -> io::Result<SubBasin> {
     let mut call = Call {
         record,
-        weather: Weather { rain, pan },
+        weather: Weather {
+            rain,
+            pan,
+            temperature: record.fixed.threshold.min(10000) as i64,
+        },
     };
     let _ = call.print(rt)?;
     Ok(call.record)

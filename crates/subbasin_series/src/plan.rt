@@ -14,7 +14,8 @@ const STARTS: usize = 17;
 // A sub-basin in every weather.
 pub fn weathers(rt: &impl Print, name: &str, start: SubBasin) -> io::Result<()> {
     for climate in Climate::ALL {
-        let sum = series::run(rt, start, climate, &mut Chance::new(), 5000)?;
+        let mut s = start;
+        let sum = series::run(rt, &mut s, climate, &mut Chance::new(), 5000)?;
         println!(rt; "{name} {climate} {sum}")?;
     }
     Ok(())
@@ -39,11 +40,22 @@ pub fn extremes(rt: &impl Print) -> io::Result<()> {
     extreme(rt, "drains whole", basins::drains(32768, 32768))?;
     extreme(rt, "recessions least", basins::recessions(0))?;
     extreme(rt, "recessions most", basins::recessions(65535))?;
+    extreme(
+        rt,
+        "no melt",
+        basins::snowy(basins::middling(), [0, 10000, 3000000]),
+    )?;
+    extreme(
+        rt,
+        "most melt",
+        basins::snowy(basins::middling(), [20000, 0, 3000000]),
+    )?;
     extreme(rt, "brimming", basins::brimming(32768))
 }
 
 fn extreme(rt: &impl Print, name: &str, start: SubBasin) -> io::Result<()> {
-    let sum = series::run(rt, start, Climate::Spells, &mut Chance::new(), 5000)?;
+    let mut s = start;
+    let sum = series::run(rt, &mut s, Climate::Spells, &mut Chance::new(), 5000)?;
     println!(rt; "extreme {name} {sum}")
 }
 
@@ -51,10 +63,10 @@ fn extreme(rt: &impl Print, name: &str, start: SubBasin) -> io::Result<()> {
 pub fn ends(rt: &impl Print) -> io::Result<()> {
     let mut chance = Chance::new();
     for place in 0..record::WORDS {
-        let least = replaced(basins::middling(), Choice::Least, place..place + 1);
-        let most = replaced(basins::middling(), Choice::Most, place..place + 1);
-        let first = series::run(rt, least, Climate::Spells, &mut chance, 1000)?;
-        let second = series::run(rt, most, Climate::Spells, &mut chance, 1000)?;
+        let mut least = replaced(basins::middling(), Choice::Least, place..place + 1);
+        let mut most = replaced(basins::middling(), Choice::Most, place..place + 1);
+        let first = series::run(rt, &mut least, Climate::Spells, &mut chance, 1000)?;
+        let second = series::run(rt, &mut most, Climate::Spells, &mut chance, 1000)?;
         println!(rt; "ends {place} {first} {second}")?;
     }
     Ok(())
@@ -66,7 +78,7 @@ pub fn drawn(rt: &impl Print, name: &str, choice: Choice, climate: Climate) -> i
     for k in 0..100 {
         let mut start = basins::case_a();
         choose(&mut start, choice, 0..rows::CHANNEL, &mut chance);
-        let sum = series::run(rt, start, climate, &mut chance, 1000)?;
+        let sum = series::run(rt, &mut start, climate, &mut chance, 1000)?;
         println!(rt; "{name} {k} {sum}")?;
     }
     Ok(())

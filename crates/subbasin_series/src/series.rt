@@ -11,13 +11,13 @@ use testing::ranges::Edge;
 // Every 16th call is astray, and every 2,500th printed in full.
 pub fn run(
     rt: &impl Print,
-    start: SubBasin,
+    record: &mut SubBasin,
     climate: Climate,
     chance: &mut Chance,
     count: usize,
 ) -> io::Result<Checksum> {
     let mut call = Call {
-        record: start,
+        record: *record,
         weather: Weather::default(),
     };
     let mut sum = Checksum::default();
@@ -34,6 +34,7 @@ pub fn run(
             calls::add(&mut sum, &given, &call.record);
         }
     }
+    *record = call.record;
     Ok(sum)
 }
 
@@ -45,9 +46,8 @@ fn astray(call: &mut Call, k: usize, sum: &mut Checksum) {
         0 => Edge::Above,
         _ => Edge::Below,
     };
-    let right = call.at(place);
-    call.put(place, call.edge_of(place, edge));
-    let given = call.take();
-    calls::add(sum, &given, &call.record);
-    call.put(place, right);
+    let mut other = call.edged(place, edge);
+    let given = other.take();
+    calls::add(sum, &given, &other.record);
+    call.go_on(&other, place);
 }

@@ -71,7 +71,10 @@ impl Range {
             15 => Range::between(0, 15),
             16 => Range::between(0, m),
             17..=20 => Range::between(0, limit),
-            _ => Range::between(0, sender.most_slow()), // VI and VG
+            21 | 22 => Range::between(0, sender.most_slow()), // VI and VG
+            23 => Range::between(0, 20000),
+            24 => Range::between(0, 10000),
+            _ => Range::between(0, sender.most_snow()),
         }
     }
 

@@ -3,6 +3,7 @@ use arrayvec::ArrayVec;
 use basin_testing::weather::{self, Fault};
 use forcing::list::Line;
 use testing::chance::Chance;
+use testing::climate::Climate;
 
 pub type List = ArrayVec<Line, 2048>;
 
@@ -15,6 +16,21 @@ pub fn drawn(long: usize, chance: &mut Chance) -> List {
             break;
         }
         lines.push(weather::line(from.saturating_add(k as u64), chance.draws()));
+    }
+    lines
+}
+
+// Seven ordinary steps of n lines each, from step i of their course on.
+pub fn course(n: u64, i: u64, chance: &mut Chance) -> List {
+    let mut lines = List::new();
+    for step in 0..7 {
+        for _ in 0..n {
+            if lines.is_full() {
+                break;
+            }
+            let line = weather::line_in(Climate::Ordinary, i.saturating_add(step), chance.draws());
+            lines.push(line);
+        }
     }
     lines
 }

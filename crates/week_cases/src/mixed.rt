@@ -102,10 +102,10 @@ fn length(n: u64, y: u64, z: u64) -> u64 {
     }
 }
 
-// Of one list in three two lines are bad, among its own and the one past them.
+// Of one list in two two lines are bad, among its own and the one past them.
 fn drawn(long: u64, [y, z]: [u64; 2], chance: &mut Chance) -> List {
     let mut lines = list::drawn(long as usize, chance);
-    if z / 8 % 3 == 0 {
+    if z / 8 % 2 == 0 {
         let ends = lines.len() as u64 + 1;
         let first = (y / 128 % ends) as usize;
         let second = (z / 512 % ends) as usize;

@@ -9,9 +9,9 @@ use testing::choices::Choice;
 use testing::drafts::Plan;
 use testing::ranges::Edge;
 
-// N and M; AREA, VG and the channel store of the first sub-basin; REACH of the second; AREA of the third, which is unused; next and
+// N and M; AREA, VG, SN and the channel store of the first sub-basin; REACH of the second; AREA of the third, which is unused; next and
 // content of the reach; content of the last reach, which is unused.
-const PLACES: [usize; 10] = [0, 1, 2, 24, 40, 57, 80, 1252, 1253, 1373];
+const PLACES: [usize; 11] = [0, 1, 2, 24, 27, 43, 60, 86, 1348, 1349, 1469];
 
 const LENGTHS: [usize; 4] = [0, 14, 15, 2002];
 

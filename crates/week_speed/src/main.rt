@@ -100,12 +100,12 @@ fn print(rt: &impl Print, way: Way, roots: &Roots, size: Size, count: u64) -> io
 }
 
 impl Way {
-    // Ordinary lines, which all weeks repeat.
+    // Ordinary lines, which all weeks repeat, of the last step of their course, in which it does not freeze.
     fn reached(self, roots: &Roots, size: Size, count: u64) -> Basin {
         let mut chance = Chance::new();
         let plan = Plan::chain(Choice::Ordinary, size.n, size.m);
         let b = calls::started(plan, &mut chance);
-        let days = weather::drawn::<64>(0, &mut chance);
+        let days = weather::drawn::<64>(31, &mut chance);
         let lines: [Line; 2048] = array::from_fn(|k| days[k % 64]);
         let lines = lines.get(..size.lines).unwrap_or(&lines);
         match self {
