@@ -1,5 +1,5 @@
-// The forcing list: document 01, "The forcing list", with the gauge readers and the depth call of "Who sent it", temperatures, and the
-// lines of the forcing file.
+// The forcing list: document 01, "The forcing list", with the gauge readers and the depth call of "Who sent it", and the lines of the
+// forcing file; document 02, Nos. 7 and 8.
 #![tactic(auto)]
 
 pub mod depth;

@@ -42,6 +42,10 @@ module _ (s : SubBasin) (n : Snow) {rain : ℕ} (h : Snows s.contents.sn rain n)
       let ws = r.in_words in
       record { in_words = lying_words m (omega arith) ws; in_line = r.in_line; unused = r.unused; in_channel = r.in_channel }
 
+-- what a step makes of the snow, for a record that 9 allows
+pub step_snows : (m : ℕ) (s : SubBasin) (w : Weather) → Within (words m Host s) → WeatherIn w → Snows s.contents.sn w.rain (snow_of s w)
+step_snows m s w ws k = snows s.fixed s.contents.sn w.rain w.temperature (omega arith) k.rain_most
+
 -- with the threshold as its temperature a step is the one on the ground
 pub snowless : (s : SubBasin) (rain pan : ℕ) → rain ≤ most_rain
     → let w : Weather = record { rain = rain; pan = pan; temperature = pos s.fixed.threshold } in stepped s w ≡ on_ground s w
@@ -53,30 +57,33 @@ snowless s rain pan h =
 -- ---- a step of a record that 9 allows
 
 module _ (m : ℕ) (s : SubBasin) (w : Weather) (h : RecordIn m s) (k : WeatherIn w) where
-  abbrev now : Snow
-  now = snow_of s w
+  abbrev lies : SubBasin
+  lies = lying s (snow_of s w)
 
-  pub step_snows : Snows s.contents.sn w.rain now
-  step_snows = let ws = h.in_words in snows s.fixed s.contents.sn w.rain w.temperature (omega arith) k.rain_most
+  abbrev falls : Weather
+  falls = reaching w (snow_of s w)
+
+  snows_here : Snows s.contents.sn w.rain (snow_of s w)
+  snows_here = step_snows m s w h.in_words k
 
   -- the record and the weather of the step on the ground
-  pub lying_allowed : RecordIn m (lying s now)
-  lying_allowed = lying_in s now step_snows m h
+  pub lying_allowed : RecordIn m lies
+  lying_allowed = lying_in s (snow_of s w) snows_here m h
 
-  pub reaching_allowed : WeatherIn (reaching w now)
-  reaching_allowed = reaching_in w now k step_snows
+  pub reaching_allowed : WeatherIn falls
+  reaching_allowed = reaching_in w (snow_of s w) k snows_here
 
   module _ (places : length s.line.waiting ≡ 15) where
     pub step_balances : water s + s.fixed.area * w.rain
         ≡ water (stepped s w).after + s.fixed.area * ((stepped s w).eu + (stepped s w).el + (stepped s w).ed) + (stepped s w).q
     unfolding stepped
     step_balances =
-        omega (arith, ground_balances m (lying s now) (reaching w now) lying_allowed reaching_allowed places, lying_water s now step_snows)
+        omega (arith, ground_balances m lies falls lying_allowed reaching_allowed places, lying_water s (snow_of s w) snows_here)
 
     pub step_keeps : Kept s (stepped s w).after
     unfolding stepped
     step_keeps =
-        let kept = ground_keeps m (lying s now) (reaching w now) lying_allowed reaching_allowed places in
+        let kept = ground_keeps m lies falls lying_allowed reaching_allowed places in
         record {
           fixed_kept = kept.fixed_kept;
           lag_same = kept.lag_same;
@@ -89,11 +96,11 @@ module _ (m : ℕ) (s : SubBasin) (w : Weather) (h : RecordIn m s) (k : WeatherI
 
   pub q_fits : (stepped s w).q ≤ 2 ^ 56 + 2 ^ 50
   unfolding stepped
-  q_fits = ground_q_fits m (lying s now) (reaching w now) lying_allowed reaching_allowed
+  q_fits = ground_q_fits m lies falls lying_allowed reaching_allowed
 
   pub evaporated_fits : s.fixed.area * ((stepped s w).eu + (stepped s w).el + (stepped s w).ed) ≤ 2 ^ 30
   unfolding stepped
-  evaporated_fits = ground_evaporated_fits m (lying s now) (reaching w now) lying_allowed reaching_allowed
+  evaporated_fits = ground_evaporated_fits m lies falls lying_allowed reaching_allowed
 
   pub rain_fits : s.fixed.area * w.rain ≤ 2 ^ 33
   rain_fits =
@@ -102,21 +109,18 @@ module _ (m : ℕ) (s : SubBasin) (w : Weather) (h : RecordIn m s) (k : WeatherI
 
   pub water_after_fits : water (stepped s w).after ≤ 2 ^ 57
   unfolding stepped
-  water_after_fits = ground_water_after_fits m (lying s now) (reaching w now) lying_allowed reaching_allowed
+  water_after_fits = ground_water_after_fits m lies falls lying_allowed reaching_allowed
 
 -- ---- a step of a record that steps lead to from a file's
 
 module _ (s : SubBasin) (w : Weather) (h : Sound s) (k : WeatherIn w) where
-  abbrev sound_snow : Snow
-  sound_snow = snow_of s w
+  snows_sound : Snows s.contents.sn w.rain (snow_of s w)
+  snows_sound = step_snows s.fixed.reach s w h.in_words k
 
-  snows_sound : Snows s.contents.sn w.rain sound_snow
-  snows_sound = let ws = h.in_words in snows s.fixed s.contents.sn w.rain w.temperature (omega arith) k.rain_most
-
-  lying_sound : Sound (lying s sound_snow)
+  lying_sound : Sound (lying s (snow_of s w))
   lying_sound =
       record {
-        in_words = lying_words s sound_snow snows_sound s.fixed.reach (omega arith) h.in_words;
+        in_words = lying_words s (snow_of s w) snows_sound s.fixed.reach (omega arith) h.in_words;
         interflow = h.interflow;
         ground = h.ground;
         places = h.places;
@@ -127,8 +131,8 @@ module _ (s : SubBasin) (w : Weather) (h : Sound s) (k : WeatherIn w) where
 
   pub sound_step : Sound (stepped s w).after
   unfolding stepped
-  sound_step = ground_sound (lying s sound_snow) (reaching w sound_snow) lying_sound (reaching_in w sound_snow k snows_sound)
+  sound_step = ground_sound (lying s (snow_of s w)) (reaching w (snow_of s w)) lying_sound (reaching_in w (snow_of s w) k snows_sound)
 
   pub sound_q : (stepped s w).q ≤ 2 ^ 34
   unfolding stepped
-  sound_q = ground_sound_q (lying s sound_snow) (reaching w sound_snow) lying_sound (reaching_in w sound_snow k snows_sound)
+  sound_q = ground_sound_q (lying s (snow_of s w)) (reaching w (snow_of s w)) lying_sound (reaching_in w (snow_of s w) k snows_sound)
