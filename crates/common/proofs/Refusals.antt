@@ -1,7 +1,7 @@
 -- The refusals' numbers: none is 0. Assumes nothing.
 use Rattle.std.proofs.Common.{◌<◌, arith}
 use Rattle.common.specs.declared.refusal.Refusal.{Refusal}
-use Rattle.common.specs.declared.refusal.Refusal.TheVariants.{FewBytes, Counts, Length, Word, LineCount, RainMissing, BelowZero, AboveLimit, BadBasin, OutOfRange, NoSuchSubBasin, NotANumber, Infinite, BadTemperature}
+use Rattle.common.specs.declared.refusal.Refusal.TheVariants.{FewBytes, Counts, Length, Word, LineCount, RainMissing, BelowZero, AboveLimit, BadBasin, OutOfRange, NoSuchSubBasin, NotANumber, Infinite, BadTemperature, BadWindow}
 use Rattle.common.specs.Refusals.{number_of}
 
 pub number_some : (r : Refusal) → 0 < number_of r
@@ -19,3 +19,4 @@ number_some NoSuchSubBasin = omega arith
 number_some NotANumber = omega arith
 number_some Infinite = omega arith
 number_some BadTemperature = omega arith
+number_some BadWindow = omega arith

@@ -3,7 +3,7 @@ use Rattle.std.specs.Prelude.{ℕ, Bool, true, false, cond, List, ◌++◌, code
 use Rattle.std.specs.Fmt.{decimal}
 use Rattle.common.specs.declared.refusal.Refused.{Refused}
 use Rattle.common.specs.declared.refusal.Refusal.{Refusal}
-use Rattle.common.specs.declared.refusal.Refusal.TheVariants.{FewBytes, Counts, Length, Word, LineCount, RainMissing, BelowZero, AboveLimit, BadBasin, OutOfRange, NoSuchSubBasin, NotANumber, Infinite, BadTemperature}
+use Rattle.common.specs.declared.refusal.Refusal.TheVariants.{FewBytes, Counts, Length, Word, LineCount, RainMissing, BelowZero, AboveLimit, BadBasin, OutOfRange, NoSuchSubBasin, NotANumber, Infinite, BadTemperature, BadWindow}
 
 abbrev pub number_of : Refusal → ℕ
 number_of FewBytes = 1
@@ -20,6 +20,7 @@ number_of NoSuchSubBasin = 11
 number_of NotANumber = 12
 number_of Infinite = 13
 number_of BadTemperature = 14
+number_of BadWindow = 15
 
 -- what a refusal says
 abbrev pub refusal_text : Refusal → List ℕ
@@ -37,6 +38,7 @@ refusal_text NoSuchSubBasin = codes "no such sub-basin"
 refusal_text NotANumber = codes "not a number"
 refusal_text Infinite = codes "infinite"
 refusal_text BadTemperature = codes "a temperature outside its range"
+refusal_text BadWindow = codes "a window that is not allowed"
 
 -- whether it has a place of its own: a word of the file, or a line
 abbrev pub is_placed : Refusal → Bool

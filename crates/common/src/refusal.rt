@@ -34,6 +34,8 @@ pub enum Refusal {
     Infinite = 13,
     // No number, infinite, or outside the range of a temperature.
     BadTemperature = 14,
+    // A window made for n outside 1..64, or with a record that no making and arrivals leave.
+    BadWindow = 15,
 }
 
 impl Refusal {
@@ -81,6 +83,7 @@ impl fmt::Display for Refusal {
             Refusal::NotANumber => "not a number",
             Refusal::Infinite => "infinite",
             Refusal::BadTemperature => "a temperature outside its range",
+            Refusal::BadWindow => "a window that is not allowed",
         })
     }
 }
