@@ -1,14 +1,17 @@
 -- One law for each kind of loop: how it begins, what a turn does, what it comes to. Assumes nothing.
 use mathlib.Core.Path.{◌≡◌, refl, sym, ap, ◌∙◌}
-use mathlib.Core.Bool.{Bool, true, false, ◌&&◌, and-false}
-use mathlib.Core.List.{List}
+use mathlib.Core.Bool.{Bool, true, false, cond, ◌&&◌, and-false}
+use mathlib.Core.List.{List, [], ◌∷◌, ◌++◌, map}
 use Prim.Native.Nat.{ℕ, zero, suc, ◌+◌, ◌-◌, ◌*◌, ◌≤◌, ◌<◌}
 use native.Mathlib.Decide.{ℕ_discrete}
 use native.Mathlib.Numerals.{add-one}
 use native.Mathlib.Omega.{arith}
-use lib.ListN.{length, get_or, set, replicate, length-set, length-replicate}
+use lib.ListN.{length, get_or, take, drop, set, replicate, length-append, length-set, length-replicate}
 use lib.Seq.{get_or-set_same, get_or-set_other}
 use borrow.Author.Tests.{eq-eqb, ne_eqb}
+use Rattle.std.specs.List.{filter}
+use Rattle.std.proofs.lemmas.List.{append-nil, map-append, take_all, drop_all}
+use Rattle.std.proofs.lemmas.List.Elements.{filter_more}
 use Rattle.common.specs.Loops.{run, filled, table, sum_of, every, first_bad}
 use Rattle.common.proofs.Limits.{both, parts}
 use Rattle.common.proofs.amounts.AmountLaws.{get_or_repeat}
@@ -97,6 +100,59 @@ module _ {A : Type 0} {x : ℕ → A} {l₀ : List A} {n : ℕ} where
     -- the entry that is next is as it was
     pub fill_here : (d : A) → get_or l i d ≡ get_or l₀ i d
     fill_here d = ap (λ (k : List A). get_or k i d) s.so_far ∙ filled_past x i l₀ d i (omega arith)
+
+-- ---- judge: a test that goes over a list, place by place
+
+pub record Judging {A : Type 0} (t : List A → Bool) (l : List A) (i : ℕ) : Type 0 where
+  pub so_far : t l ≡ t (drop i l)
+
+module _ {A : Type 0} {t : List A → Bool} {l : List A} where
+  pub judge_begin : Judging t l 0
+  judge_begin = record { so_far = refl }
+
+  module _ {i : ℕ} (s : Judging t l i) where
+    module _ {r : Bool} (e : t (drop i l) ≡ r && t (drop (i + 1) l)) where
+      pub judge_turn : r ≡ true → Judging t l (i + 1)
+      judge_turn good = record { so_far = s.so_far ∙ e ∙ rw good }
+
+      pub judge_stop : r ≡ false → t l ≡ false
+      judge_stop bad = s.so_far ∙ e ∙ rw bad
+
+    pub judge_end : length l ≤ i → t [] ≡ true → t l ≡ true
+    judge_end h none = s.so_far ∙ ap t (drop_all i l h) ∙ none
+
+-- ---- gather: the entries of a list that pass a test, each changed, in their order
+
+pub record Gathering {A B : Type 0} (p : A → Bool) (f : A → B) (l : List A) (i : ℕ) (g : List B) : Type 0 where
+  pub place : i ≤ length l
+  pub few : length g ≤ i
+  pub so_far : g ≡ map f (filter p (take i l))
+
+module _ {A B : Type 0} {p : A → Bool} {f : A → B} {l : List A} where
+  pub gather_begin : Gathering p f l 0 []
+  gather_begin = record { place = omega arith; few = omega arith; so_far = refl }
+
+  module _ {i : ℕ} {g : List B} (s : Gathering p f l i g) where
+    module _ {x : A} (h : i < length l) (e : x ≡ get_or l i x) where
+      more : filter p (take (i + 1) l) ≡ filter p (take i l) ++ cond (p x) (x ∷ []) []
+      more = filter_more p l i x h ∙ ap (λ (y : A). filter p (take i l) ++ cond (p y) (y ∷ []) []) (sym e)
+
+      pub gather_take : p x ≡ true → Gathering p f l (i + 1) (g ++ f x ∷ [])
+      gather_take t =
+          let taken : filter p (take (i + 1) l) ≡ filter p (take i l) ++ x ∷ [] = rw t at more in
+          record {
+            place = omega arith;
+            few = omega (arith, length-append g (f x ∷ []), s.few);
+            so_far = ap (λ (k : List B). k ++ f x ∷ []) s.so_far ∙ sym (map-append f (filter p (take i l)) (x ∷ [])) ∙ ap (map f) (sym taken);
+          }
+
+      pub gather_leave : p x ≡ false → Gathering p f l (i + 1) g
+      gather_leave t =
+          let left : filter p (take (i + 1) l) ≡ filter p (take i l) ++ [] = rw t at more in
+          record { place = omega arith; few = omega (arith, s.few); so_far = s.so_far ∙ ap (map f) (sym (left ∙ append-nil (filter p (take i l)))) }
+
+    pub gather_end : length l ≤ i → g ≡ map f (filter p l)
+    gather_end h = s.so_far ∙ ap (λ (k : List A). map f (filter p k)) (take_all i l h)
 
 -- ---- sum
 

@@ -57,9 +57,12 @@ unfolding all_up_to
 all_in b [] h = refl
 all_in b (x ∷ xs) h = both (le-leb x b h.0) (all_in b xs h.1)
 
+pub up_to_copies : (b v n : ℕ) → v ≤ b → UpTo b (replicate n v)
+up_to_copies b v zero h = tt
+up_to_copies b v (suc n) h = (h, up_to_copies b v n h)
+
 pub up_to_zeros : (b n : ℕ) → UpTo b (replicate n 0)
-up_to_zeros b zero = tt
-up_to_zeros b (suc n) = (omega arith, up_to_zeros b n)
+up_to_zeros b n = up_to_copies b 0 n (omega arith)
 
 pub up_to_append : (b : ℕ) (xs ys : List ℕ) → UpTo b xs → UpTo b ys → UpTo b (xs ++ ys)
 up_to_append b [] ys h k = k
