@@ -5,6 +5,7 @@ use crate::curve::root_of;
 use crate::expect::curve_speed::{self, argument, chain, ROUND};
 use crate::expect::rain_speed::{self, STATES};
 use crate::expect::week_speed::SIZES;
+use crate::expect::window_speed::{self, WAYS};
 use crate::files::{line, Files, LineWords, MEASURED};
 use crate::record::{range, Most, WORDS};
 use std::fs;
@@ -149,6 +150,26 @@ pub fn rains(rain_speed: &Path, out: &mut impl Write) -> io::Result<()> {
         let own = each(best_time(|| rain_speed::round(state, rain_speed::none)));
         let ratio = none / call;
         writeln!(out, "{state:8} {call:6.2} µs {none:6.1} µs {ratio:6.2} {own:8.1} µs")?;
+    }
+    Ok(())
+}
+
+/// An arrival into a window made for 64, in nanoseconds, and into the model's window of all the last 64. What either takes
+/// without one is taken off.
+pub fn window(window_speed: &Path, out: &mut impl Write) -> io::Result<()> {
+    writeln!(out, "volumes    arrival       model   ratio   (best of {RUNS})")?;
+    let bare = best_time(window_speed::idle);
+    for (name, way) in WAYS {
+        let [idle, arrivals] = best(["idle", name].map(|way| {
+            let mut windows = Command::new(window_speed);
+            windows.arg(way);
+            windows
+        }))?;
+        let each = |all: f64| 1_000_000.0 * all / window_speed::ROUND as f64;
+        let arrival = each(arrivals - idle) / 100.0;
+        let own = each(best_time(|| window_speed::round(way)) - bare);
+        let ratio = arrival / own;
+        writeln!(out, "{name:7} {arrival:7.1} ns {own:8.1} ns {ratio:7.2}")?;
     }
     Ok(())
 }

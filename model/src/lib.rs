@@ -18,4 +18,5 @@ pub mod sample;
 pub mod store;
 pub mod subbasin;
 pub mod week;
+pub mod window;
 pub mod words;

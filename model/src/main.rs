@@ -16,6 +16,7 @@ const USAGE: &str = "usage:
   model bench-curve CURVE_SPEED      times a root alone, by each way, and a search of an ordinate
   model bench-weeks WEEK_SPEED       times a step in a week and by itself
   model bench-rains RAIN_SPEED       times an answer for all 1,001 rains and a sub-basin call
+  model bench-window WINDOW_SPEED    times an arrival into a window
   model bench-files FOLDER YEARS SUBBASINS
   model program-cases FOLDER         makes the files of program_cases
   model expected                     names the test programs
@@ -53,6 +54,7 @@ fn obey(words: &[&str], out: &mut impl Write) -> io::Result<u8> {
         ["bench-curve", curve_speed] => bench::curve(curve_speed.as_ref(), out),
         ["bench-weeks", week_speed] => bench::weeks(week_speed.as_ref(), out),
         ["bench-rains", rain_speed] => bench::rains(rain_speed.as_ref(), out),
+        ["bench-window", window_speed] => bench::window(window_speed.as_ref(), out),
         ["bench-files", folder, years, sub_basins] => {
             bench::files(number(years)?, number(sub_basins)?).write(folder.as_ref())
         }

@@ -18,14 +18,16 @@ mod subbasin_series;
 mod weather;
 mod week_cases;
 pub mod week_speed;
+mod window_cases;
+pub mod window_speed;
 
 use crate::{files, program};
 use std::io::{self, Write};
 
 #[rustfmt::skip]
-const NAMES: [&str; 13] = [
+const NAMES: [&str; 15] = [
     "curve_cases", "curve_speed", "subbasin_series", "forcing_cases", "file_cases", "basin_series", "week_cases",
-    "week_speed", "rain_cases", "rain_speed", "program_cases", "embedding", "account",
+    "week_speed", "rain_cases", "rain_speed", "window_cases", "window_speed", "program_cases", "embedding", "account",
 ];
 
 pub fn names(out: &mut impl Write) -> io::Result<()> {
@@ -44,6 +46,8 @@ pub fn print(name: &str, out: &mut impl Write) -> io::Result<()> {
         "week_speed" => week_speed::print(out),
         "rain_cases" => rain_cases::print(out),
         "rain_speed" => rain_speed::print(out),
+        "window_cases" => window_cases::print(out),
+        "window_speed" => window_speed::print(out),
         "program_cases" => program_cases::print(out),
         "embedding" => embedding::print(out),
         "account" => {
