@@ -1,5 +1,4 @@
--- A window's record: what it keeps, that its test lets pass what keeps volumes and ages that fall, and arrivals that leave such a one.
--- Assumes nothing.
+-- A window's record: what it keeps, what its test asks of it, both ways, and arrivals that leave one that passes. Assumes nothing.
 use mathlib.Core.Path.{◌≡◌, refl, sym, ap, ◌∙◌}
 use mathlib.Core.Bool.{Bool, true, ◌&&◌, and-true}
 use mathlib.Core.List.{List, [], ◌∷◌, ◌++◌}
@@ -142,7 +141,7 @@ module _ (w : Window) (range : w.count ≤ most) (long : length w.kept ≡ most)
 
 -- ---- arrivals that leave what falls
 
--- before each one that is kept come copies of it, so many as there are steps between
+-- each one that is kept comes as often as there are steps to it from the age before
 unfoldable pub history : ℕ → List Kept → List ℕ
 history before [] = []
 history before (k ∷ l) = replicate (before - k.age) k.volume ++ history k.age l
@@ -153,11 +152,10 @@ below_more v x (y ∷ l) t h =
     let p = parts (ltb y v) (below v l) t in
     both (lt-ltb y x (omega (arith, ltb-true y v p.0))) (below_more v x l p.1 h)
 
-module _ (x : ℕ) where
-  aged_copies : (m : ℕ) (l : List ℕ) → below x l ≡ true → aged (replicate (suc m) x ++ l) ≡ at_age x (length l) ∷ aged l
-  unfolding aged
-  aged_copies zero l t = rw t
-  aged_copies (suc m) l t = rw (le-ltb x x (omega arith)) (aged_copies m l t)
+aged_copies : (x m : ℕ) (l : List ℕ) → below x l ≡ true → aged (replicate (suc m) x ++ l) ≡ at_age x (length l) ∷ aged l
+unfolding aged
+aged_copies x zero l t = rw t
+aged_copies x (suc m) l t = rw (le-ltb x x (omega arith)) (aged_copies x m l t)
 
 -- What is right of the arrivals after k, where l comes after it.
 record Rest (k : Kept) (l : List Kept) : Type 0 where
@@ -165,7 +163,7 @@ record Rest (k : Kept) (l : List Kept) : Type 0 where
   kept : aged (history k.age l) ≡ l
   lower : below k.volume (history k.age l) ≡ true
 
--- And of those with k and its copies before them, so many as there are steps from `before`.
+-- And of those that begin with k, as often as it comes.
 record Whole (before : ℕ) (k : Kept) (l : List Kept) : Type 0 where
   so_many : length (history before (k ∷ l)) ≡ before
   kept : aged (history before (k ∷ l)) ≡ k ∷ l

@@ -146,6 +146,7 @@ impl Window {
         next.volume < kept.volume && next.age < kept.age
     }
 
+    // The oldest kept.
     #[tactic(auto, unfolding(crate::specs::Window::highest_of))]
     fn highest(&self) -> u64
         ensures { result ≡ highest_of self.now }
