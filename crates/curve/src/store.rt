@@ -2,6 +2,7 @@
 // and reach.
 ghost use Rattle.std.specs.Prelude.{◌≡◌, ◌↔◌, IsTrue, ◌+◌, ◌≤◌};
 ghost use Rattle.curve.specs.Store.{outflow, as_released, store_call};
+ghost use Rattle.curve.specs.Stray.{Strays};
 ghost use Rattle.curve.specs.Workers.{StoreIn};
 
 use common::refusal::Refusal;
@@ -31,10 +32,12 @@ pub const MOST_CONTENT: u64 = 1 << 56;
 const HALF: u64 = ONE / 2;
 
 impl Store {
-    // Takes the inflow, and hands back the store and its outflow: by `mut self`, as document 01 has it.
-    #[tactic(auto, using(crate::proofs::store::StoreLaws::store_accepts, crate::proofs::store::StoreLaws::store_refuses), unfolding(crate::specs::Store::content))]
+    // Takes the inflow, and hands back the store and its outflow: by `mut self`, as document 01 has it. How far it strays is said of the store handed
+    // in and of every list of inflows into it.
+    #[tactic(auto, using(crate::proofs::store::StoreLaws::store_accepts, crate::proofs::store::StoreLaws::store_refuses, crate::proofs::store::StrayLaws::strays), unfolding(crate::specs::Store::content))]
     pub fn take(mut self, inflow: u64) -> Taken
-        ensures { as_released result ≡ store_call self inflow }
+        ensures answers { as_released result ≡ store_call self inflow }
+        ensures strays { Strays self }
     {
         if !self.is_inside(inflow) {
             return Taken {

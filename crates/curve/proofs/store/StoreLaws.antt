@@ -29,15 +29,15 @@ module _ {a g : ℕ} (a-le : a ≤ one) (g-le : g ≤ one) where
   store_conserves v i = omega (arith, store_within v i)
 
 -- the number added before the division, so that it goes to nearest with halves up
-abbrev half : ℕ
+abbrev pub half : ℕ
 half = 32768
 
 -- the two sides of the division
-record Rounded (a g v i o : ℕ) : Type 0 where
-  lower : one * o ≤ a * i + g * v + half
-  upper : a * i + g * v + half < one * o + one
+pub record Rounded (a g v i o : ℕ) : Type 0 where
+  pub lower : one * o ≤ a * i + g * v + half
+  pub upper : a * i + g * v + half < one * o + one
 
-rounded : (a g v i : ℕ) → Rounded a g v i (outflow a g v i)
+pub rounded : (a g v i : ℕ) → Rounded a g v i (outflow a g v i)
 unfolding outflow
 rounded a g v i = omega arith
 
@@ -46,10 +46,9 @@ abbrev pub slack : ℕ
 slack = 65535 - half
 
 -- over plain numbers, with a' and g' the rest of the shares
-bounded : (a a' g g' v i o v' j b : ℕ) → a + a' ≡ one → g + g' ≡ one → v' + o ≡ v + i → Rounded a g v i o → i ≤ j → g * v ≤ b → a' * j + slack ≤ b
+bounded : (a a' g g' v i o v' j b : ℕ) → g + g' ≡ one → one * v' ≤ g' * v + a' * i + slack → Rounded a g v i o → i ≤ j → g * v ≤ b → a' * j + slack ≤ b
     → (g * v' ≤ b) × (one * o ≤ a * j + b + half)
-bounded a a' g g' v i o v' j b ea eg keeps r hi hv hb =
-    let left : one * v' ≤ g' * v + a' * i + slack = omega (arith, r.upper, ap (λ (x : ℕ). x * i) ea, ap (λ (x : ℕ). x * v) eg) in
+bounded a a' g g' v i o v' j b eg left r hi hv hb =
     let inflow : a' * i ≤ a' * j = mul-le-mul_left a' hi in
     let scaled : g * (one * v') ≤ g * (g' * v + b) = mul-le-mul_left g (omega arith) in
     let stock : g' * (g * v) ≤ g' * b = mul-le-mul_left g' hv in
@@ -59,12 +58,21 @@ shares : (a a' j : ℕ) → a + a' ≡ one → a * j + a' * j ≡ one * j
 shares a a' j e = omega (arith, ap (λ (x : ℕ). x * j) e)
 
 module _ {a g : ℕ} (a-le : a ≤ one) (g-le : g ≤ one) where
+  -- a store keeps the rest of its shares, but for what the rounding adds or takes
+  pub store_rounds : (v i : ℕ) → ((one - g) * v + (one - a) * i ≤ one * content a g v i + half) × (one * content a g v i ≤ (one - g) * v + (one - a) * i + slack)
+  store_rounds v i =
+      let r = rounded a g v i in
+      let keeps = store_conserves a-le g-le v i in
+      let ea : a + (one - a) ≡ one = omega (arith, a-le) in
+      let eg : g + (one - g) ≡ one = omega (arith, g-le) in
+      (omega (arith, r.lower, keeps, ap (λ (x : ℕ). x * i) ea, ap (λ (x : ℕ). x * v) eg), omega (arith, r.upper, keeps, ap (λ (x : ℕ). x * i) ea, ap (λ (x : ℕ). x * v) eg))
+
   -- the store lemma: while no inflow is above J, a bound B on g × V that covers J stays, and holds the outflow down
   pub store_bounded : (v i j b : ℕ) → i ≤ j → g * v ≤ b → (one - a) * j + slack ≤ b
       → (g * content a g v i ≤ b) × (one * outflow a g v i ≤ a * j + b + half)
   store_bounded v i j b =
-      bounded a (one - a) g (one - g) v i (outflow a g v i) (content a g v i) j b (omega arith) (omega arith)
-      (store_conserves a-le g-le v i) (rounded a g v i)
+      bounded a (one - a) g (one - g) v i (outflow a g v i) (content a g v i) j b (omega arith)
+      (store_rounds v i).1 (rounded a g v i)
 
   -- with the least such B a store never lets out more than the most that came in
   pub store_passes : (v i j : ℕ) → i ≤ j → g * v ≤ (one - a) * j + slack
@@ -85,7 +93,7 @@ pub store_accepts : (s : Store) (i : ℕ) → StoreIn s i → store_call s i ≡
 unfolding store_call store_in
 store_accepts s i h = simp (le-leb _ _ h.a_in, le-leb _ _ h.g_in, le-leb _ _ h.inflow_in, le-leb _ _ h.content_in)
 
-store_limits : (s : Store) (i : ℕ) → store_in s i ≡ true → StoreIn s i
+pub store_limits : (s : Store) (i : ℕ) → store_in s i ≡ true → StoreIn s i
 unfolding store_in
 store_limits s i h =
     let d = parts (leb s.a one && leb s.g one && leb i most_inflow) (leb s.content most_content) h in

@@ -8,10 +8,10 @@ use Rattle.subbasin.proofs.step.OnGroundLaws.{slow_within}
 use Rattle.subbasin.proofs.step.pass.Goals as goal
 
 pub unwrap-requires : goal.unwrap-requires
-unwrap-requires c = unwraps (ap (λ (t : Taken). t.outflow) (store_takes _ _ (omega (arith, c.requires)) c.take-taken.ensures))
+unwrap-requires c = unwraps (ap (λ (t : Taken). t.outflow) (store_takes _ _ (omega (arith, c.requires)) c.take-taken.ensures.answers))
 
 pub returns : goal.returns
 returns c =
-    let is = store_takes _ _ (omega (arith, c.requires)) c.take-taken.ensures in
+    let is = store_takes _ _ (omega (arith, c.requires)) c.take-taken.ensures.answers in
     let lets_go = unwrapped (ap (λ (t : Taken). t.outflow) is) c.unwrap.ensures in
     record { holds = ap (λ (t : Taken). t.store.content) is; lets_go = lets_go; within = rw lets_go (slow_within _ _ _) }

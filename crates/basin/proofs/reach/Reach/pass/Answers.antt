@@ -18,11 +18,11 @@ takes : (r : Reach) (i : ℕ) → Passing r i → {t : Taken} → as_released t 
 takes r i h = store_takes (store_of r) i (record { a_in = h.c0_most; g_in = h.g_most; inflow_in = h.inflow_most; content_in = h.content_most })
 
 pub unwrap-requires : goal.unwrap-requires
-unwrap-requires c = unwraps (ap (λ (t : Taken). t.outflow) (takes _ _ c.requires c.take-taken.ensures))
+unwrap-requires c = unwraps (ap (λ (t : Taken). t.outflow) (takes _ _ c.requires c.take-taken.ensures.answers))
 
 pub returns : goal.returns
 returns c =
-    let is = takes _ _ c.requires c.take-taken.ensures in
+    let is = takes _ _ c.requires c.take-taken.ensures.answers in
     let r = c.args.self.now in
     let out = unwrapped (ap (λ (t : Taken). t.outflow) is) c.unwrap.ensures in
     (ap (λ (t : Taken). record { c0 = r.c0; c1 = r.c1; next = r.next; content = t.store.content }) is, out)
