@@ -16,6 +16,7 @@ pub mod record;
 pub mod roots;
 pub mod sample;
 pub mod store;
+pub mod stray;
 pub mod subbasin;
 pub mod week;
 pub mod window;
