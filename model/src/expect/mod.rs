@@ -14,6 +14,7 @@ mod plans;
 pub mod program_cases;
 mod rain_cases;
 pub mod rain_speed;
+mod store_series;
 mod subbasin_series;
 mod weather;
 mod week_cases;
@@ -25,9 +26,10 @@ use crate::{files, program};
 use std::io::{self, Write};
 
 #[rustfmt::skip]
-const NAMES: [&str; 15] = [
-    "curve_cases", "curve_speed", "subbasin_series", "forcing_cases", "file_cases", "basin_series", "week_cases",
-    "week_speed", "rain_cases", "rain_speed", "window_cases", "window_speed", "program_cases", "embedding", "account",
+const NAMES: [&str; 16] = [
+    "curve_cases", "curve_speed", "store_series", "subbasin_series", "forcing_cases", "file_cases", "basin_series",
+    "week_cases", "week_speed", "rain_cases", "rain_speed", "window_cases", "window_speed", "program_cases",
+    "embedding", "account",
 ];
 
 pub fn names(out: &mut impl Write) -> io::Result<()> {
@@ -38,6 +40,7 @@ pub fn print(name: &str, out: &mut impl Write) -> io::Result<()> {
     match name {
         "curve_cases" => curve_cases::print(out),
         "curve_speed" => curve_speed::print(out),
+        "store_series" => store_series::print(out),
         "subbasin_series" => subbasin_series::print(out),
         "forcing_cases" => forcing_cases::print(out),
         "file_cases" => file_cases::print(out),
