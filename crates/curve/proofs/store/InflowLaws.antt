@@ -1,30 +1,22 @@
 -- Lists of inflows into one store: its shares stay, and what an inflow that is not refused finds and leaves. Assumes nothing.
 use mathlib.Core.Path.{◌≡◌, refl, ap, ◌∙◌}
-use mathlib.Core.Bool.{Bool, true, false}
 use Prim.Native.Nat.{ℕ, ◌≤◌}
 use native.Mathlib.Omega.{arith}
-use Rattle.std.specs.Prelude.{cond, List, [], ◌∷◌}
+use Rattle.std.specs.Prelude.{List, [], ◌∷◌}
 use Rattle.common.specs.Shares.{one}
+use Rattle.common.proofs.Limits.{by_test}
 use Rattle.curve.specs.declared.store.Store.{Store}
-use Rattle.curve.specs.Store.{content, store_in, Released, released, kept, store_call}
+use Rattle.curve.specs.Store.{content, store_in, Released, store_call}
 use Rattle.curve.specs.Stray.{after}
 use Rattle.curve.proofs.store.StoreLaws.{StoreIn, store_accepts, store_limits}
 
 not_refused : (t : Store) (i : ℕ) → (store_call t i).number ≡ 0 → StoreIn t i
 unfolding store_call
-not_refused t i = go (store_in t i) refl
-  where
-    go : (b : Bool) → store_in t i ≡ b → (cond b (released t i) (kept t)).number ≡ 0 → StoreIn t i
-    go true is _ = store_limits t i is
-    go false _ h = absurd (omega (arith, h))
+not_refused t i = by_test (λ (r : Released). r.number ≡ 0 → StoreIn t i) (store_in t i) (λ is _. store_limits t i is) (λ _ h. absurd (omega (arith, h)))
 
 call_shares : (t : Store) (i : ℕ) → ((store_call t i).store.a ≡ t.a) × ((store_call t i).store.g ≡ t.g)
 unfolding store_call
-call_shares t i = go (store_in t i)
-  where
-    go : (b : Bool) → ((cond b (released t i) (kept t)).store.a ≡ t.a) × ((cond b (released t i) (kept t)).store.g ≡ t.g)
-    go true = (refl, refl)
-    go false = (refl, refl)
+call_shares t i = by_test (λ (r : Released). (r.store.a ≡ t.a) × (r.store.g ≡ t.g)) (store_in t i) (λ _. (refl, refl)) (λ _. (refl, refl))
 
 pub after_shares : (s : Store) (l : List ℕ) → ((after s l).a ≡ s.a) × ((after s l).g ≡ s.g)
 unfolding after

@@ -8,9 +8,9 @@ use native.Mathlib.Omega.{arith}
 use Rattle.std.specs.Prelude.{List, [], ◌∷◌, length}
 use Rattle.common.specs.Shares.{one}
 use Rattle.curve.specs.declared.store.Store.{Store}
-use Rattle.curve.specs.Store.{outflow, most_content, Released}
+use Rattle.curve.specs.Store.{content, most_content, Released}
 use Rattle.curve.specs.Stray.{after, RefusesNone, numerator}
-use Rattle.curve.proofs.store.StoreLaws.{StoreIn, half, rounded, store_conserves, store_accepts}
+use Rattle.curve.proofs.store.StoreLaws.{StoreIn, half, store_rounds, store_accepts}
 use Rattle.curve.proofs.store.InflowLaws.{after_shares, accepted}
 
 -- ---- the level
@@ -69,20 +69,11 @@ pub filling : Store → ℕ → ℕ → List ℕ
 filling s level zero = []
 filling s level (suc k) = let l = filling s level k in (level - (after s l).content) ∷ l
 
--- over plain numbers, a' and g' being the rest of the shares: g times the difference is the half less what x stands for
-nearer : (g a' g' v i o v' n p x : ℕ) → a' ≡ g' → g + g' ≡ one → v' + o ≡ v + i → g * (v + i) + half ≡ one * o → g * (v * p) + half * p ≡ g * n + half * x
-    → g * (v' * (one * p)) + half * (one * p) ≡ g * (n * g' + i * a' * p) + half * (g' * x)
-nearer g a' g' v i o v' n p x same eg keeps halved before =
-    omega (
-      arith,
-      ap (λ (y : ℕ). g' * y) before,
-      ap (λ (y : ℕ). g * p * one * y) keeps,
-      ap (λ (y : ℕ). g * p * y) halved,
-      ap (λ (y : ℕ). y * (g * i * p)) same,
-      ap (λ (y : ℕ). y * (g * v * p)) eg,
-      ap (λ (y : ℕ). y * p) eg,
-      ap (λ (y : ℕ). y * (g * i * p)) eg,
-    )
+-- over plain numbers, a' and g' being the rest of the shares and c the content after: g times the difference is the half less what x stands for
+nearer : (g a' g' v i c n p x : ℕ) → a' ≡ g' → g + g' ≡ one → one * c + half ≡ g' * (v + i) → g * (v * p) + half * p ≡ g * n + half * x
+    → g * (c * (one * p)) + half * (one * p) ≡ g * (n * g' + i * a' * p) + half * (g' * x)
+nearer g a' g' v i c n p x same eg kept before =
+    omega (arith, ap (λ (y : ℕ). g' * y) before, ap (λ (y : ℕ). g * p * y) kept, ap (λ (y : ℕ). y * (g * i * p)) same, ap (λ (y : ℕ). y * p) eg)
 
 -- What is right of k such inflows l.
 pub record Filled (s : Store) (level k : ℕ) (l : List ℕ) : Type 0 where
@@ -105,15 +96,17 @@ module _ (s : Store) (same : s.a ≡ s.g) (some : 1 ≤ s.g) (below : s.g < one)
       let inside : StoreIn t i = record { a_in = omega (arith, shares.0, same, below); g_in = omega (arith, shares.1, below); inflow_in = omega (arith, v.near, fits); content_in = h.inside } in
       let none = ap (λ (r : Released). r.number) (store_accepts t i inside) in
       let taken = accepted s i l none in
-      let keeps = store_conserves taken.a_in taken.g_in t.content i in
-      let r = rounded s.a s.g t.content i in
+      let r = store_rounds taken.a_in taken.g_in t.content i in
+      let eg : s.g + (one - s.g) ≡ one = omega (arith, below) in
+      let parts = ap (λ (x : ℕ). x * v.level) eg in
       let full : t.content + i ≡ v.level = omega (arith, h.low) in
-      let halved : s.g * (t.content + i) + half ≡ one * outflow s.a s.g t.content i = omega (arith, r.lower, r.upper, v.is, ap (λ (x : ℕ). x * i) same, ap (λ (x : ℕ). s.g * x) full) in
+      let share = ap (λ (x : ℕ). (one - s.g) * x) full in
+      let kept : one * content s.a s.g t.content i + half ≡ (one - s.g) * (t.content + i) = omega (arith, r.0, r.1, v.is, parts, share, ap (λ (x : ℕ). (one - x) * i) same) in
       record {
         many = ap suc h.many;
         none = (h.none, none);
-        low = omega (arith, taken.content_is, keeps, full);
-        inside = omega (arith, taken.content_is, keeps, full, halved, v.near, fits, mul-le-mul_right (t.content + i) some);
+        low = omega (arith, taken.content_is, kept, parts, share);
+        inside = omega (arith, taken.content_is, kept, parts, share, v.near, fits, mul-le-mul_right v.level some);
         comes = rw (taken.content_is, pow-succ' one (length l), pow-succ' (one - s.g) (length l))
-            (nearer s.g _ _ t.content i _ _ (numerator s l) (one ^ length l) ((one - s.g) ^ length l) (omega (arith, same)) (omega (arith, below)) keeps halved h.comes);
+            (nearer s.g _ _ t.content i _ (numerator s l) (one ^ length l) ((one - s.g) ^ length l) (omega (arith, same)) eg kept h.comes);
       }

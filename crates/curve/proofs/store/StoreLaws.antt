@@ -33,11 +33,11 @@ abbrev pub half : ℕ
 half = 32768
 
 -- the two sides of the division
-pub record Rounded (a g v i o : ℕ) : Type 0 where
-  pub lower : one * o ≤ a * i + g * v + half
-  pub upper : a * i + g * v + half < one * o + one
+record Rounded (a g v i o : ℕ) : Type 0 where
+  lower : one * o ≤ a * i + g * v + half
+  upper : a * i + g * v + half < one * o + one
 
-pub rounded : (a g v i : ℕ) → Rounded a g v i (outflow a g v i)
+rounded : (a g v i : ℕ) → Rounded a g v i (outflow a g v i)
 unfolding outflow
 rounded a g v i = omega arith
 
