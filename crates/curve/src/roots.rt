@@ -22,7 +22,7 @@ pub trait FindRoot {
 #[derive(Clone, Copy)]
 pub struct Newton;
 
-// By the printed table, which is made anew for each root.
+// By the printed table, where it stands.
 #[derive(Clone, Copy)]
 pub struct Printed;
 
@@ -35,11 +35,18 @@ const NEAR: u64 = 4096;
 // No entry of the printed table is above this.
 const MOST_ENTRY: u64 = 8191;
 
-// The printed table. A call that is lent none makes it anew.
+// The printed table, to be lent.
 pub fn printed_roots() -> Roots
     ensures { result ≡ printed_roots }
 {
-    ROOTS
+    *own_table()
+}
+
+// The printed table where it stands.
+fn own_table() -> &'static Roots
+    ensures { result.now ≡ printed_roots }
+{
+    &ROOTS
 }
 
 // A few steps, where std's `isqrt` halves 32 times. The first guess is the mean of t and 65,536, and a guess whose square is too great goes
@@ -63,8 +70,7 @@ impl FindRoot for Printed {
         if t.parts == ONE {
             return t;
         }
-        let roots = printed_roots();
-        let r = lead(&roots, t.parts).unwrap();
+        let r = lead(own_table(), t.parts).unwrap();
         if t.parts * ONE < r * r {
             return Share { parts: r - 1 };
         }
