@@ -106,9 +106,14 @@ module _ (l : Line) where
   unfolding line_number
   number_is = rw (rain_number_is l.rain, call_number l.pan Pan, temperature_number_is l.temperature)
 
+  pub first_bad_lem : {p : Depth} → p ≡ first → (p.number ≡ 0 → ⊥) → p.number ≡ line_number l
+  first_bad_lem {p} e bad =
+      let n = ap (λ (p : Depth). p.number) e in
+      sym (number_is ∙ rw (← n, ne_eqb p.number 0 bad))
+
   -- the four ways out of `judge_line`, with the depths d and e and the temperature t
   pub first_refuses : (why : Refusal) → answer (refusal_number why) 0 ≡ first → refusal_number why ≡ line_number l
-  first_refuses why p = let n : refusal_number why ≡ first.number = cc in sym (number_is ∙ rw (← n, some why))
+  first_refuses why p = first_bad_lem p (λ z. omega (arith, z, number_some why))
 
   module _ {d : ℕ} (p : answer 0 d ≡ first) where
     pub second_refuses : (why : Refusal) → answer (refusal_number why) 0 ≡ second → refusal_number why ≡ line_number l
