@@ -15,7 +15,7 @@ pub struct Drained {
     pub g: u64,
 }
 
-// It asks that the words are inside their ranges, as those of `soil` do.
+// They ask that the words are inside their ranges, as those of `soil` do.
 impl Parameters {
     // The greatest point capacity of free water, MS.
     #[tactic(auto, unfolding(crate::specs::FreeWater::ms))]
@@ -24,6 +24,22 @@ impl Parameters {
         ensures { result ≡ ms self.now }
     {
         self.sm * self.xn / 16
+    }
+
+    // What is kept drains.
+    #[tactic(auto, using(crate::proofs::free_water::FreeWaterLaws::drains_most), unfolding(crate::specs::FreeWater::drained))]
+    pub(crate) fn drain(&self, kept: u64) -> Drained
+        requires { FreeIn self.now × (kept ≤ self.now.sm) }
+        ensures answered { result ≡ drained self.now kept }
+        ensures most { result.ri + result.rg ≤ kept }
+    {
+        let ri = self.ki * kept / ONE;
+        let rg = self.kg * kept / ONE;
+        Drained {
+            ri,
+            rg,
+            g: kept - ri - rg,
+        }
     }
 }
 
@@ -45,21 +61,5 @@ impl Ground<'_> {
         ensures { result ≡ level self.now.p.now g pe r }
     {
         self.p.sm.min(g * pe / r)
-    }
-
-    // What is kept drains.
-    #[tactic(auto, using(crate::proofs::free_water::FreeWaterLaws::drains_most), unfolding(crate::specs::FreeWater::drained))]
-    pub fn drain(&self, kept: u64) -> Drained
-        requires { kept ≤ self.now.p.now.sm }
-        ensures answered { result ≡ drained self.now.p.now kept }
-        ensures most { result.ri + result.rg ≤ kept }
-    {
-        let ri = self.p.ki * kept / ONE;
-        let rg = self.p.kg * kept / ONE;
-        Drained {
-            ri,
-            rg,
-            g: kept - ri - rg,
-        }
     }
 }

@@ -3,13 +3,12 @@
 ghost use Rattle.std.specs.Prelude.{◌≡◌, true, ◌≤◌};
 ghost use Rattle.curve.specs.Capacity.{curve_in, rise};
 ghost use Rattle.subbasin.specs.Record.{record_in};
-ghost use Rattle.subbasin.specs.Soil.{wm, mm, ep};
+ghost use Rattle.subbasin.specs.Soil.{wm, mm};
 ghost use Rattle.subbasin.specs.FreeWater.{ms};
 ghost use Rattle.subbasin.specs.Step.{layers_of};
 ghost use Rattle.subbasin.specs.Workers.{SoilIn, LayersIn, FreeIn, soil_curve, free_curve};
 
 use crate::record::{Parameters, SubBasin};
-use common::shares::ONE;
 use curve::capacity::{Curve, Roots};
 
 // Its methods ask besides that net rain is at most 1,000,000, and that layers or tension water are within their capacities. These tie what
@@ -50,16 +49,6 @@ impl<'a> Ground<'a> {
                 e: p.xn,
             },
         }
-    }
-
-    // EP, from the pan depth.
-    #[tactic(auto, unfolding(crate::specs::Soil::ep))]
-    pub fn ep(&self, pan: u64) -> u64
-        requires { pan ≤ 100000 }
-        ensures answered { result ≡ ep self.now.p.now pan }
-        ensures most { result ≤ 200000 }
-    {
-        self.p.k * pan / ONE
     }
 
     // What the soil holds once pe has come on top of tension water w.

@@ -49,7 +49,7 @@ impl Ground<'_> {
 }
 
 impl Sliced {
-    fn begin(w: Layers, g: u64) -> Sliced
+    pub fn begin(w: Layers, g: u64) -> Sliced
         ensures { result ≡ no_slice w g }
     {
         Sliced {

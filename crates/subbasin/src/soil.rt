@@ -1,7 +1,7 @@
 // Evapotranspiration, runoff and the three layers of tension water: document 01, "One sub-basin, one step". All in µm.
 ghost use Rattle.std.specs.Prelude.{◌≡◌, ◌+◌, ◌-◌, ◌^◌, ◌≤◌, ◌<◌};
 ghost use Rattle.subbasin.specs.Workers.{SoilIn, LayersIn};
-ghost use Rattle.subbasin.specs.Soil.{fallen, deeper, evaporated, tension, wm, mm, rb, gain, refilled, runoff};
+ghost use Rattle.subbasin.specs.Soil.{ep, fallen, deeper, evaporated, tension, wm, mm, rb, gain, refilled, runoff};
 ghost use Rattle.subbasin.specs.Step.{layers_of};
 
 use crate::ground::Ground;
@@ -74,7 +74,7 @@ impl Layers {
     }
 }
 
-// Both ask that the words are inside their ranges: a `Ground`, of which that is known, is made by them.
+// They ask that the words are inside their ranges. A `Ground`, of which that is known, is made by the first two; without net rain none is made.
 impl Parameters {
     // What all layers hold, WM.
     pub(crate) fn wm(&self) -> u64
@@ -92,15 +92,23 @@ impl Parameters {
     {
         self.wm() * self.bn * ONE / (16 * (ONE - self.im))
     }
-}
 
-impl Ground<'_> {
+    // EP, from the pan depth.
+    #[tactic(auto, unfolding(crate::specs::Soil::ep))]
+    pub(crate) fn ep(&self, pan: u64) -> u64
+        requires { SoilIn self.now × (pan ≤ 100000) }
+        ensures answered { result ≡ ep self.now pan }
+        ensures most { result ≤ 200000 }
+    {
+        self.k * pan / ONE
+    }
+
     // EP is e: from rain where it is enough, and otherwise from the layers, the upper one first.
     #[tactic(auto, unfolding(crate::specs::Soil::evaporated))]
-    pub fn evaporate(&self, w: Layers, rain: u64, e: u64) -> Evaporated
-        requires { LayersIn self.now.p.now w × (e ≤ 200000) }
-        ensures answered { result ≡ evaporated self.now.p.now w rain e }
-        ensures inside { LayersIn self.now.p.now result.layers }
+    pub(crate) fn evaporate(&self, w: Layers, rain: u64, e: u64) -> Evaporated
+        requires { SoilIn self.now × LayersIn self.now w × (e ≤ 200000) }
+        ensures answered { result ≡ evaporated self.now w rain e }
+        ensures inside { LayersIn self.now result.layers }
         ensures pe_most { result.pe ≤ rain }
     {
         if e <= rain {
@@ -120,22 +128,23 @@ impl Ground<'_> {
     // What the upper layer leaves wanting, d, is drawn from the lower and the deep layer.
     #[tactic(auto, unfolding(crate::specs::Soil::deeper))]
     fn draw_deeper(&self, w: Layers, rain: u64, u: u64, d: u64) -> Evaporated
-        requires { LayersIn self.now.p.now w × (d ≤ 200000) × (u ≤ w.wu) × (rain + u ≤ 200000) }
-        ensures answered { result ≡ deeper self.now.p.now w rain u d }
-        ensures inside { LayersIn self.now.p.now result.layers }
+        requires { SoilIn self.now × LayersIn self.now w × (d ≤ 200000) × (u ≤ w.wu) × (rain + u ≤ 200000) }
+        ensures answered { result ≡ deeper self.now w rain u d }
+        ensures inside { LayersIn self.now result.layers }
         ensures no_rain_left { result.pe ≡ 0 }
     {
-        let p = self.p;
-        if p.c * p.lm <= w.wl * ONE {
-            let el = w.wl.min(d * w.wl / p.lm);
+        if self.c * self.lm <= w.wl * ONE {
+            let el = w.wl.min(d * w.wl / self.lm);
             return w.fall(rain, u, el, 0);
         }
-        let q = p.c * d / ONE;
+        let q = self.c * d / ONE;
         let el = w.wl.min(q);
         let ed = w.wd.min(q - el);
         w.fall(rain, u, el, ed)
     }
+}
 
+impl Ground<'_> {
     // Runoff from the impervious part, and from what the soil can't hold of the rest of the net rain.
     #[tactic(auto, using(crate::proofs::soil::SoilLaws::gain_in), unfolding(crate::specs::Soil::runoff, crate::specs::Soil::rb))]
     pub fn run_off(&self, w: Layers, pe: u64) -> Runoff

@@ -3,13 +3,15 @@ ghost use Rattle.std.specs.Prelude.{◌≡◌, true, ◌+◌, ◌≤◌};
 ghost use Rattle.common.specs.Shares.{one};
 ghost use Rattle.curve.specs.Store.{most_inflow, most_content};
 ghost use Rattle.subbasin.specs.Record.{record_in};
+ghost use Rattle.subbasin.specs.Slices.{sliced};
 ghost use Rattle.subbasin.specs.Step.{holds, let_go, with_drained, on_ground, as_stepped, call_in, sub_call, AsBefore};
+ghost use Rattle.subbasin.specs.Workers.{LayersIn};
 
 use crate::free_water::Drained;
 use crate::ground::Ground;
 use crate::record::{Contents, SubBasin};
 use crate::slices::Sliced;
-use crate::soil::Evaporated;
+use crate::soil::{Evaporated, Layers};
 use common::refusal::Refusal;
 use common::shares::ONE;
 use common::weather::{LEAST_TEMPERATURE, MOST_PAN, MOST_RAIN, MOST_TEMPERATURE, Weather};
@@ -43,7 +45,7 @@ struct Stages {
 impl SubBasin {
     // Whether a step under this weather is accepted.
     #[tactic(auto, unfolding(crate::specs::Step::call_in))]
-    fn accepts(&self, weather: Weather) -> bool
+    pub(crate) fn accepts(&self, weather: Weather) -> bool
         ensures { result ≡ call_in self.now weather }
     {
         weather.rain <= MOST_RAIN
@@ -80,16 +82,31 @@ impl SubBasin {
     }
 
     // The stages of soil and free water, in order, where P is the weather's rain.
-    #[tactic(auto, using(crate::proofs::step::CallLaws::called, crate::proofs::step::StageLaws::chained))]
+    #[tactic(auto, using(crate::proofs::step::CallLaws::called, crate::proofs::step::StageLaws::chained, crate::proofs::ground::GroundLaws::ground_laws))]
     fn rain_on(&self, roots: &Roots, weather: Weather) -> Stages
         requires { call_in self.now weather ≡ true }
         ensures { with_drained self.now result.ev result.sl result.dr ≡ on_ground self.now weather }
     {
-        let ground = Ground::of(roots, self);
-        let ev = ground.evaporate(self.contents.into(), weather.rain, ground.ep(weather.pan));
-        let sl = ground.take_slices(ev.layers, self.contents.g, ev.pe);
-        let dr = ground.drain(sl.kept);
+        let p = &self.fixed;
+        let ev = p.evaporate(self.contents.into(), weather.rain, p.ep(weather.pan));
+        let sl = self.take_slices(roots, ev.layers, ev.pe);
+        let dr = p.drain(sl.kept);
         Stages { ev, sl, dr }
+    }
+
+    // Net rain pe on the layers w, in slices. Where there is none, no curve is worked out.
+    #[tactic(auto, using(crate::proofs::ground::GroundLaws::ground_laws, crate::proofs::slices::SlicesLaws::sliced_none))]
+    fn take_slices(&self, roots: &Roots, w: Layers, pe: u64) -> Sliced
+        requires { (record_in self.now.fixed.reach self.now ≡ true) × LayersIn self.now.fixed w × (pe ≤ 1000000) }
+        ensures answered { result ≡ sliced self.now.fixed w self.now.contents.g pe }
+        ensures kept_most { result.kept ≤ self.now.fixed.sm }
+        ensures direct_most { result.rs + result.rb ≤ 1100000 }
+    {
+        let g = self.contents.g;
+        if pe == 0 {
+            return Sliced::begin(w, g);
+        }
+        Ground::of(roots, self).take_slices(w, g, pe)
     }
 
     // The slow stores, the lag line and the channel.

@@ -10,7 +10,7 @@ use crate::record::SubBasin;
 use crate::soil::Layers;
 use crate::walk::Walk;
 use common::refusal::Refusal;
-use common::weather::MOST_PAN;
+use common::weather::Weather;
 use curve::capacity;
 
 // The most millimetres of a rain.
@@ -28,14 +28,18 @@ impl SubBasin {
         let roots = capacity::printed_roots();
         let ground = Ground::of(&roots, self);
         let w = Layers::from(self.contents).tension();
-        Ok(ground.search(w, ground.ep(pan), wanted))
+        Ok(ground.search(w, ground.p.ep(pan), wanted))
     }
 
-    // Whether a question with this pan depth is accepted, as its step would be: a threshold that 9 allows is a temperature.
+    // Whether a question with this pan depth is accepted, as its step would be: a threshold that 9 allows is a temperature, as 0 °C is.
+    #[tactic(auto, using(crate::proofs::yields::YieldsLaws::question_judged))]
     fn answers(&self, pan: u64) -> bool
         ensures { result ≡ call_in self.now (raining self.now 0 pan) }
     {
-        pan <= MOST_PAN && self.allowed(self.fixed.reach)
+        self.accepts(Weather {
+            pan,
+            ..Weather::default()
+        })
     }
 }
 

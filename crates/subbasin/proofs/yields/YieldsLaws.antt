@@ -4,7 +4,9 @@ use mathlib.Core.Bool.{true, false, true≢false}
 use Prim.Native.Nat.{ℕ, ◌≤◌, ◌<◌}
 use native.Mathlib.Omega.{arith}
 use Rattle.std.proofs.lemmas.Int.{ints}
+use Rattle.std.specs.Prelude.{pos}
 use Rattle.common.specs.Weather.{most_pan}
+use Rattle.common.specs.declared.weather.Weather.{Weather}
 use Rattle.subbasin.specs.declared.record.SubBasin.{SubBasin}
 use Rattle.subbasin.specs.Record.{record_in}
 use Rattle.std.specs.Cmp.{both_ways}
@@ -81,6 +83,14 @@ module _ (s : SubBasin) (pan : ℕ) where
   pub question_pan : most_pan < pan → leb pan most_pan ≡ call_in s (raining s 0 pan)
   question_pan h =
       lt-leb pan most_pan h ∙ sym (refuted (call_in s (raining s 0 pan)) (λ t. omega (arith, h, (called s (raining s 0 pan) t).pan_most)))
+
+  -- as of a step at 0 °C
+  pub question_judged : call_in s (record { rain = 0; pan = pan; temperature = pos 0 }) ≡ call_in s (raining s 0 pan)
+  question_judged =
+      let cold : Weather = record { rain = 0; pan = pan; temperature = pos 0 } in
+      both_ways (call_in s cold) (call_in s (raining s 0 pan)) (λ t. let c = called s cold t in own_in c.allowed c.pan_most)
+      (λ t. let c = called s (raining s 0 pan) t in
+      call_in_lem s cold c.allowed (record { rain_most = omega arith; pan_most = c.pan_most; temperature_least = omega (arith, ints); temperature_most = omega (arith, ints) }))
 
   pub question_allowed : call_in s (raining s 0 pan) ≡ true → (record_in s.fixed.reach s ≡ true) × (pan ≤ most_pan)
   question_allowed t = let c = called s (raining s 0 pan) t in (c.allowed, c.pan_most)
