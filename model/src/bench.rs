@@ -86,7 +86,7 @@ pub fn bench(account: &Path, out: &mut impl Write) -> io::Result<()> {
     fs::remove_dir_all(&folder)
 }
 
-/// A root alone, in nanoseconds: by Newton's steps, by the printed table, lent and made anew for each, and the model's
+/// A root alone, in nanoseconds: by Newton's steps, by the printed table, lent and where it stands, and the model's
 /// own; then a search, of many curves, the model's, and at the worst point. What the chain takes without is taken off.
 pub fn curve(curve_speed: &Path, out: &mut impl Write) -> io::Result<()> {
     let ways = ["idle", "newton", "lent", "made", "search", "worst"];
@@ -102,7 +102,7 @@ pub fn curve(curve_speed: &Path, out: &mut impl Write) -> io::Result<()> {
     for (name, time) in [
         ("a root by Newton's steps", newton - idle),
         ("a root by the printed table, lent", lent - idle),
-        ("a root by the printed table, made anew", made - idle),
+        ("a root by the printed table, where it stands", made - idle),
         ("a root of the model's", own - bare),
         ("a search of many curves", search - idle),
         ("a search of many curves, the model's", own_search - bare),
