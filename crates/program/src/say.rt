@@ -121,12 +121,13 @@ pub fn unwritten<W: io::Write>(to: &mut W, line: u64, error: io::Error) {
     failed(to, what.as_bytes(), error);
 }
 
-// What failed, and why, in the system's words: std puts the number of the system's error after them. Bytes, as text would ask more of a
-// caller.
+// What failed, and why, in the system's words, up to a zero byte: std puts the number of the system's error after them. Bytes, as text would
+// ask more of a caller.
 pub fn failed<W: io::Write>(to: &mut W, what: &[u8], error: io::Error) {
     let text = InlineText::<128>::of(&error);
     let text = text.as_str();
     let why = text.split_once(" (os error ").map_or(text, |parts| parts.0);
+    let why = why.split_once("\0").map_or(why, |parts| parts.0);
     for part in [what, b": ", why.as_bytes(), b"\n"] {
         let _ = calls::write_full(to, part);
     }
