@@ -51,8 +51,7 @@ impl Basin {
         self.step_with(&roots, lines, count)
     }
 
-    // The same with a table of roots that is lent (curve::capacity), for whoever takes many steps. `step` is this with the printed table: a
-    // host of few steps needs no table.
+    // The same with a table of roots that is lent (curve::capacity). `step` is this with the printed table, so a host needs none.
     pub fn step_with(
         &mut self,
         roots: &Roots,

@@ -63,8 +63,7 @@ impl SubBasin {
         self.step_with(&roots, weather)
     }
 
-    // The same with a table of roots that is lent (curve::capacity), for whoever takes many steps. `step` is this with the printed table: a
-    // host of few steps needs no table.
+    // The same with a table of roots that is lent (curve::capacity). `step` is this with the printed table, so a host needs none.
     #[tactic(auto, using(crate::proofs::step::CallLaws::called), unfolding(crate::specs::Step::sub_call))]
     pub fn step_with(&mut self, roots: &Roots, weather: Weather) -> Result<Flows, Refusal>
         ensures { as_stepped self.new result ≡ sub_call self.old weather }

@@ -25,7 +25,7 @@ pub fn week(b: &mut Basin, lines: &[Line]) -> Week
     week_with(&roots, b, lines)
 }
 
-// The same with a table of roots that is lent (curve::capacity). `week` is this with the printed one, which a host of one week needn't hold.
+// The same with a table of roots that is lent (curve::capacity). `week` is this with the printed one, so a host needs none.
 pub fn week_with(roots: &Roots, b: &mut Basin, lines: &[Line]) -> Week
     ensures answers { as_ran b.new result ≡ week_call b.old lines.now }
     ensures judges { WeekJudged b.old lines.now (as_ran b.new result) }

@@ -106,6 +106,7 @@ module _ (l : Line) where
   unfolding line_number
   number_is = rw (rain_number_is l.rain, call_number l.pan Pan, temperature_number_is l.temperature)
 
+  -- a bad rain's number is the line's
   pub first_bad_lem : {p : Depth} → p ≡ first → (p.number ≡ 0 → ⊥) → p.number ≡ line_number l
   first_bad_lem {p} e bad =
       let n = ap (λ (p : Depth). p.number) e in

@@ -1,18 +1,18 @@
 -- What is right of an answer: a rain that does, none, or a refusal; and of two ways to say what the rains yield. Assumes nothing.
 use mathlib.Core.Path.{◌≡◌, refl, sym, ◌∙◌}
-use mathlib.Core.Bool.{true, false, true≢false}
+use mathlib.Core.Bool.{true, false, true≢false, ◌&&◌}
 use Prim.Native.Nat.{ℕ, ◌≤◌, ◌<◌}
 use native.Mathlib.Omega.{arith}
 use Rattle.std.proofs.lemmas.Int.{ints}
-use Rattle.std.specs.Prelude.{pos}
-use Rattle.common.specs.Weather.{most_pan}
+use Rattle.std.specs.Prelude.{ℤ, pos, ◌≤ℤ◌}
+use Rattle.common.specs.Weather.{most_pan, least_temperature, most_temperature}
 use Rattle.common.specs.declared.weather.Weather.{Weather}
 use Rattle.subbasin.specs.declared.record.SubBasin.{SubBasin}
 use Rattle.subbasin.specs.Record.{record_in}
 use Rattle.std.specs.Cmp.{both_ways}
 use lib.Dec.{leb}
-use borrow.Author.Tests.{lt-leb}
-use Rattle.common.proofs.Limits.{refuted}
+use borrow.Author.Tests.{le-leb, leb-true}
+use Rattle.common.proofs.Limits.{both, parts}
 use Rattle.subbasin.specs.Step.{call_in}
 use Rattle.subbasin.specs.Yields.{Answer, most_millimetres, raining, Answers, refused, own_refusal}
 use Rattle.subbasin.proofs.record.RecordLaws.{record_limits}
@@ -69,28 +69,29 @@ answers_same refusal f g wanted a same h =
 -- ---- the sub-basin's own refusal
 
 module _ (s : SubBasin) (pan : ℕ) where
-  own_in : record_in s.fixed.reach s ≡ true → pan ≤ most_pan → call_in s (raining s 0 pan) ≡ true
-  own_in r h =
-      let ws = (record_limits s.fixed.reach s r).in_words in
-      call_in_lem s (raining s 0 pan) r
-      (record { rain_most = omega arith; pan_most = h; temperature_least = omega (arith, ints); temperature_most = omega (arith, ints) })
+  -- without rain record and pan decide alone, at any temperature that is inside its limits where 9 allows the record
+  by_record_and_pan : (t : ℤ) → (record_in s.fixed.reach s ≡ true → (least_temperature ≤ℤ t) × (t ≤ℤ most_temperature))
+      → call_in s (record { rain = 0; pan = pan; temperature = t }) ≡ record_in s.fixed.reach s && leb pan most_pan
+  by_record_and_pan t inside =
+      let w : Weather = record { rain = 0; pan = pan; temperature = t } in
+      both_ways (call_in s w) (record_in s.fixed.reach s && leb pan most_pan)
+      (λ y. let c = called s w y in both c.allowed (le-leb pan most_pan c.pan_most))
+      (λ y. let a = parts (record_in s.fixed.reach s) (leb pan most_pan) y in
+      let r = inside a.0 in
+      call_in_lem s w a.0 (record { rain_most = omega arith; pan_most = leb-true pan most_pan a.1; temperature_least = r.0; temperature_most = r.1 }))
 
-  -- pan and record decide alone, as a threshold is a temperature
-  pub question_in : pan ≤ most_pan → record_in s.fixed.reach s ≡ call_in s (raining s 0 pan)
-  question_in h =
-      both_ways (record_in s.fixed.reach s) (call_in s (raining s 0 pan)) (λ t. own_in t h) (λ t. (called s (raining s 0 pan) t).allowed)
+  -- at the threshold, which is a temperature
+  pub question_in : call_in s (raining s 0 pan) ≡ record_in s.fixed.reach s && leb pan most_pan
+  question_in =
+      by_record_and_pan (pos s.fixed.threshold)
+      (λ r. let ws = (record_limits s.fixed.reach s r).in_words in (omega (arith, ints), omega (arith, ints)))
 
-  pub question_pan : most_pan < pan → leb pan most_pan ≡ call_in s (raining s 0 pan)
-  question_pan h =
-      lt-leb pan most_pan h ∙ sym (refuted (call_in s (raining s 0 pan)) (λ t. omega (arith, h, (called s (raining s 0 pan) t).pan_most)))
-
-  -- as of a step at 0 °C
+  -- and so as at 0 °C
   pub question_judged : call_in s (record { rain = 0; pan = pan; temperature = pos 0 }) ≡ call_in s (raining s 0 pan)
-  question_judged =
-      let cold : Weather = record { rain = 0; pan = pan; temperature = pos 0 } in
-      both_ways (call_in s cold) (call_in s (raining s 0 pan)) (λ t. let c = called s cold t in own_in c.allowed c.pan_most)
-      (λ t. let c = called s (raining s 0 pan) t in
-      call_in_lem s cold c.allowed (record { rain_most = omega arith; pan_most = c.pan_most; temperature_least = omega (arith, ints); temperature_most = omega (arith, ints) }))
+  question_judged = by_record_and_pan (pos 0) (λ _. (omega (arith, ints), omega (arith, ints))) ∙ sym question_in
+
+  own_in : record_in s.fixed.reach s ≡ true → pan ≤ most_pan → call_in s (raining s 0 pan) ≡ true
+  own_in r h = question_in ∙ both r (le-leb pan most_pan h)
 
   pub question_allowed : call_in s (raining s 0 pan) ≡ true → (record_in s.fixed.reach s ≡ true) × (pan ≤ most_pan)
   question_allowed t = let c = called s (raining s 0 pan) t in (c.allowed, c.pan_most)
