@@ -1,6 +1,6 @@
-//! A library to preload: calls of the program that fail or are cut short, as the environment asks. FAULT_READS and FAULT_WRITES (of
-//! standard output) have a word for each call in turn: `-` as the system does it, `s` at most 7 bytes of it, or the number of an
-//! error. FAULT_STORE is the error of storing a file.
+//! A library to preload: calls of the program that fail or are cut short, as the environment asks. FAULT_READS, FAULT_WRITES (of
+//! standard output) and FAULT_SAID (of standard error) have a word for each call in turn: `-` as the system does it, `s` at most 7
+//! bytes of it, or the number of an error. FAULT_STORE is the error of storing a file.
 
 use std::env;
 use std::ffi::{c_int, c_long};
@@ -15,9 +15,11 @@ const READ: c_long = 0;
 const WRITE: c_long = 1;
 const FSYNC: c_long = 74;
 const STANDARD_OUTPUT: c_int = 1;
+const STANDARD_ERROR: c_int = 2;
 
 static READS: AtomicUsize = AtomicUsize::new(0);
 static WRITES: AtomicUsize = AtomicUsize::new(0);
+static SAID: AtomicUsize = AtomicUsize::new(0);
 
 /// The word for the next call.
 fn next(variable: &str, calls: &AtomicUsize) -> String {
@@ -47,7 +49,11 @@ pub unsafe extern "C" fn read(fd: c_int, bytes: *mut u8, count: usize) -> isize 
 
 #[no_mangle]
 pub unsafe extern "C" fn write(fd: c_int, bytes: *mut u8, count: usize) -> isize {
-    let word = if fd == STANDARD_OUTPUT { next("FAULT_WRITES", &WRITES) } else { "-".into() };
+    let word = match fd {
+        STANDARD_OUTPUT => next("FAULT_WRITES", &WRITES),
+        STANDARD_ERROR => next("FAULT_SAID", &SAID),
+        _ => "-".into(),
+    };
     moved(&word, WRITE, fd, bytes, count)
 }
 
